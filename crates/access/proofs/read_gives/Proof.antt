@@ -1,0 +1,29 @@
+-- `access::read_gives` meets its contract. Assumes nothing.
+use borrow.Author.Tests.{eq-eqb, ne-eqb}
+use Rattle.access.specs.Status.{readGives}
+use borrow.Author.Needs.{needs}
+use Rattle.access.proofs.read_gives.Statement.{statement}
+use Rattle.access.proofs.read_gives.Tie as tie
+
+returns : tie.Need-returns
+unfolding readGives
+returns c = rw (eq-eqb _ _ (c .if1 .taken))
+
+all-ones-requires : tie.Need-all-ones-requires
+all-ones-requires c κs = search needs
+
+returns-2 : tie.Need-returns-2
+unfolding readGives
+returns-2 c = rw
+    (ne-eqb _ _ (c .before .before .if1 .left),
+    eq-eqb _ _ (c .before .if2 .taken),
+    c .all-ones .ensures)
+
+returns-3 : tie.Need-returns-3
+unfolding readGives
+returns-3 c = rw
+    (ne-eqb _ _ (c .before .if1 .left),
+    ne-eqb _ _ (c .if2 .left))
+
+pub read-gives-spec : {M : Type 1} → statement M
+read-gives-spec = tie.close (tie.spec returns all-ones-requires returns-2 returns-3)

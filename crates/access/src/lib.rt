@@ -1,0 +1,54 @@
+// An access and its answer: the status table of document 01.
+ghost use mathlib.Core.Path.{_≡_};
+ghost use Rattle.access.specs.Status.{done, failed, readGives};
+
+// A read or a write; `value` is what a write writes, and a read does not look at it.
+pub struct Access {
+    pub write: bool,
+    pub width: u32,
+    pub port: u32,
+    pub value: u32,
+}
+
+pub struct Answer {
+    pub status: u32,
+    pub value: u32,
+}
+
+impl Answer {
+    pub const DONE: u32 = 0;
+    pub const UNCLAIMED: u32 = 1;
+    pub const BLOCKED: u32 = 2;
+    pub const UNDEFINED: u32 = 3;
+    pub const ABSENT: u32 = 4;
+    pub const IGNORED: u32 = 5;
+
+    pub fn done(value: u32) -> Self
+        ensures { λ r. ⌜ r ≡ done value ⌝ }
+    {
+        Answer {
+            status: Answer::DONE,
+            value,
+        }
+    }
+
+    // An answer that is not done has no value of its own: `read_gives` says what is read.
+    pub fn failed(status: u32) -> Self
+        ensures { λ r. ⌜ r ≡ failed status ⌝ }
+    {
+        Answer { status, value: 0 }
+    }
+}
+
+// What a read of this width gives under a status, where the register holds `value`.
+pub fn read_gives(status: u32, width: u32, value: u32) -> u32
+    ensures { λ r. ⌜ r ≡ readGives status width value ⌝ }
+{
+    if status == Answer::DONE {
+        return value;
+    }
+    if status == Answer::UNCLAIMED {
+        return width::all_ones(width);
+    }
+    0
+}

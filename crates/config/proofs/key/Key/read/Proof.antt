@@ -1,0 +1,44 @@
+-- `config::key::Key::read` meets its contract. Assumes nothing.
+use borrow.Author.Tests.{eq-eqb, ne-eqb}
+use Rattle.config.specs.Key.{keyRead}
+use Rattle.config.specs.Config.{registerRead}
+use Rattle.config.specs.Config.{registerWritten}
+use borrow.Author.Needs.{needs}
+use Rattle.config.proofs.key.Key.read.Statement.{statement}
+use Rattle.config.proofs.key.Key.read.Tie as tie
+
+element-copy-out-wide8 : tie.Need-element-copy-out-wide8
+element-copy-out-wide8 c = search needs
+
+wide8-requires : tie.Need-wide8-requires
+wide8-requires c κs = search needs
+
+done-requires : tie.Need-done-requires
+done-requires c κs = search needs
+
+returns : tie.Need-returns
+unfolding keyRead registerRead registerWritten
+returns c = simp
+    (eq-eqb _ _ (c .before .before .before .if1 .taken),
+    c .before .wide8 .ensures,
+    c .done .ensures)
+
+failed-requires : tie.Need-failed-requires
+failed-requires c κs = search needs
+
+returns-2 : tie.Need-returns-2
+unfolding keyRead registerRead registerWritten
+returns-2 c = simp
+    (ne-eqb _ _ (c .before .if1 .left),
+    c .failed .ensures)
+
+pub read-spec : {M : Type 1} → statement M
+read-spec =
+    tie.close
+    (tie.spec
+    element-copy-out-wide8
+    wide8-requires
+    done-requires
+    returns
+    failed-requires
+    returns-2)

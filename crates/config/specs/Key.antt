@@ -1,0 +1,24 @@
+-- Document 01, "Configuration and key": the key bytes.
+use Prim.Native.Nat.{ℕ}
+use mathlib.Core.Bool.{cond}
+use lib.Bits.{bitAnd}
+use lib.Dec.{eqb}
+use lib.ListN.{getD, set, replicate}
+use Rattle.access.specs.declared.Answer.{Answer}
+use Rattle.access.specs.Status.{done, failed}
+use Rattle.config.specs.declared.key.Key.{Key}
+use Rattle.config.specs.declared.key.KeyWritten.{KeyWritten}
+
+-- "Reset 3 also key bytes [..] 0"
+abbrev pub freshKey : Key
+freshKey = record { bytes = replicate 32 0 }
+
+-- "Key control: bit 2 write-lock, bit 1 read-lock, bit 0 lock. [..] A key read under read-lock and a key write under
+-- write-lock have status 2."
+unfoldable pub keyRead : Key → ℕ → ℕ → Answer
+keyRead k control at = cond (eqb (bitAnd control 0x02) 0) (done (getD (k .bytes) at 0)) (failed 2)
+
+unfoldable pub keyWritten : Key → ℕ → ℕ → ℕ → KeyWritten
+keyWritten k control at v =
+    cond (eqb (bitAnd control 0x04) 0) (record { status = 0; key = record { bytes = set (k .bytes) at v } })
+    (record { status = 2; key = k })

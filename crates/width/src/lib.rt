@@ -1,0 +1,34 @@
+// The width of an access, 1, 2 or 4 bytes, and the values that it can carry.
+ghost use mathlib.Core.Path.{_≡_};
+ghost use Rattle.width.specs.Width.{isWidth, allOnes, fitsWidth};
+
+pub fn is_width(width: u32) -> bool
+    ensures { λ r. ⌜ r ≡ isWidth width ⌝ }
+{
+    if width == 1 {
+        return true;
+    }
+    if width == 2 {
+        return true;
+    }
+    width == 4
+}
+
+// What a read of this width gives where nobody answers; also the largest value of the width.
+pub fn all_ones(width: u32) -> u32
+    ensures { λ r. ⌜ r ≡ allOnes width ⌝ }
+{
+    if width == 1 {
+        return 0xFF;
+    }
+    if width == 2 {
+        return 0xFFFF;
+    }
+    0xFFFF_FFFF
+}
+
+pub fn fits(width: u32, value: u32) -> bool
+    ensures { λ r. ⌜ r ≡ fitsWidth width value ⌝ }
+{
+    value <= all_ones(width)
+}

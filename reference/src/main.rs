@@ -1,0 +1,73 @@
+//! The independent second program. It is written from document 01 and docs/CASES.md alone,
+//! so that its answers can be compared byte for byte with those of `replay`.
+
+#![forbid(unsafe_code)]
+
+mod acpi;
+mod configuration;
+mod device;
+mod generate;
+mod monitor;
+mod random;
+mod state;
+mod stream;
+
+#[cfg(test)]
+mod tests;
+
+use std::io::{self, BufReader, BufWriter, Write};
+use std::process::ExitCode;
+
+const USAGE: &str = "\
+usage: reference answer                read commands on standard input, print the expected answers
+       reference generate SEED COUNT   print COUNT random commands (both numbers decimal)
+";
+
+const BUFFER_BYTES: usize = 1 << 16;
+
+enum Task {
+    Answer,
+    Generate { seed: u64, count: u64 },
+}
+
+fn task(arguments: &[String]) -> Option<Task> {
+    match arguments {
+        [name] if name == "answer" => Some(Task::Answer),
+        [name, seed, count] if name == "generate" => Some(Task::Generate {
+            seed: seed.parse().ok()?,
+            count: count.parse().ok()?,
+        }),
+        _ => None,
+    }
+}
+
+fn run(task: Task) -> io::Result<()> {
+    let mut output = BufWriter::with_capacity(BUFFER_BYTES, io::stdout().lock());
+    match task {
+        Task::Answer => {
+            let mut input = BufReader::with_capacity(BUFFER_BYTES, io::stdin().lock());
+            stream::answer_all(&mut input, &mut output)?;
+        }
+        Task::Generate { seed, count } => generate::write_commands(seed, count, &mut output)?,
+    }
+    output.flush()
+}
+
+fn main() -> ExitCode {
+    let arguments: Vec<String> = std::env::args_os()
+        .skip(1)
+        .map(|argument| argument.to_string_lossy().into_owned())
+        .collect();
+    let Some(task) = task(&arguments) else {
+        // Nothing sensible is left to do if the complaint itself cannot be written.
+        let _ = io::stderr().write_all(USAGE.as_bytes());
+        return ExitCode::from(2);
+    };
+    match run(task) {
+        Ok(()) => ExitCode::SUCCESS,
+        Err(error) => {
+            let _ = writeln!(io::stderr(), "reference: {error}");
+            ExitCode::FAILURE
+        }
+    }
+}

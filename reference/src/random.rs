@@ -1,0 +1,49 @@
+//! A small seeded generator of random numbers (splitmix64).
+
+pub struct Random {
+    state: u64,
+}
+
+impl Random {
+    pub fn new(seed: u64) -> Self {
+        Random { state: seed }
+    }
+
+    pub fn next(&mut self) -> u64 {
+        self.state = self.state.wrapping_add(0x9E37_79B9_7F4A_7C15);
+        let mut mixed = self.state;
+        mixed = (mixed ^ (mixed >> 30)).wrapping_mul(0xBF58_476D_1CE4_E5B9);
+        mixed = (mixed ^ (mixed >> 27)).wrapping_mul(0x94D0_49BB_1331_11EB);
+        mixed ^ (mixed >> 31)
+    }
+
+    /// 0 to bound - 1; 0 for a bound of 0.
+    pub fn below(&mut self, bound: u32) -> u32 {
+        ((self.next() >> 32) * u64::from(bound) >> 32) as u32
+    }
+
+    pub fn one_in(&mut self, chances: u32) -> bool {
+        self.below(chances) == 0
+    }
+
+    pub fn byte(&mut self) -> u8 {
+        (self.next() >> 56) as u8
+    }
+
+    /// One of the items, which are not empty.
+    pub fn pick<T: Copy>(&mut self, items: &[T]) -> T {
+        items[self.below(items.len() as u32) as usize]
+    }
+
+    /// A number of so many bits: often 0, all ones or a single bit.
+    pub fn bits(&mut self, bits: u32) -> u32 {
+        let all = u32::MAX >> 32u32.saturating_sub(bits).min(31);
+        match self.below(8) {
+            0 => 0,
+            1 => all,
+            2..=4 => 1 << self.below(bits),
+            5 => (self.next() & self.next()) as u32 & all,
+            _ => self.next() as u32 & all,
+        }
+    }
+}
