@@ -138,7 +138,10 @@ impl Acpi {
             && self.pm1_enable & !PM1_ENABLE_MASK == 0
             && self.pm1_control & !PM1_CONTROL_MASK == 0
             && Setup::under(self.setup_index).is_some()
-            && self.pin_maps.iter().all(|map| map_is_legal(u32::from(*map)))
+            && self
+                .pin_maps
+                .iter()
+                .all(|map| map_is_legal(u32::from(*map)))
             && u32::from(self.irq) <= IRQ_LAST
             && self.timer < TIMER_COUNTS
     }
@@ -153,9 +156,7 @@ impl Acpi {
             Register::SmiCmd => Ok(0),
             Register::Pm1Status => Ok(u32::from(self.pm1_status)),
             Register::Pm1Enable => Ok(u32::from(self.pm1_enable)),
-            Register::Pm1Control => {
-                Ok(u32::from(self.pm1_control) | u32::from(self.sci_enabled))
-            }
+            Register::Pm1Control => Ok(u32::from(self.pm1_control) | u32::from(self.sci_enabled)),
             Register::SetupIndex => Ok(u32::from(self.setup_index)),
             Register::Gpe0Status => Ok(u32::from(self.gpe0_status)),
             Register::Gpe0Enable => Ok(u32::from(self.gpe0_enable)),

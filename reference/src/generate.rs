@@ -80,7 +80,22 @@ const LEGAL_MAP_TARGETS: [u32; 24] = [
 const ILLEGAL_MAP_TARGETS: [u32; 9] = [0x01, 0x07, 0x0A, 0x0F, 0x20, 0x40, 0x80, 0x90, 0xFF];
 
 const IRQS: [u32; 16] = [
-    0, 1, 9, 10, 14, 15, 15, 16, 16, 17, 31, 0x80, 0xFF, 0x0100, 0x0109, 0x8000_0000,
+    0x00,
+    0x01,
+    0x09,
+    0x0A,
+    0x0E,
+    0x0F,
+    0x0F,
+    0x10,
+    0x10,
+    0x11,
+    0x1F,
+    0x80,
+    0xFF,
+    0x100,
+    0x109,
+    0x8000_000F,
 ];
 
 /// Single bits that PM1a_EN keeps, with none at times.
@@ -335,12 +350,16 @@ impl Generator {
         }
         for _ in 0..=self.random.below(4) {
             let index = match self.random.below(8) {
-                0 => self.random.pick(&[0x55, 0xAA, 0x06, 0x08, 0x31, 0x5F, 0x64, 0xF1, 0xF3]),
+                0 => self
+                    .random
+                    .pick(&[0x55, 0xAA, 0x06, 0x08, 0x31, 0x5F, 0x64, 0xF1, 0xF3]),
                 1 => self.random.bits(8),
                 _ => self.random.pick(&CONFIGURATION_REGISTERS),
             };
             let value = match index {
-                0x07 => self.random.pick(&[0x0A, 0x0A, 0x0A, 0x0A, 0x0B, 0x00, 0x1A, 0xFF]),
+                0x07 => self
+                    .random
+                    .pick(&[0x0A, 0x0A, 0x0A, 0x0A, 0x0B, 0x00, 0x1A, 0xFF]),
                 _ => self.random.bits(8),
             };
             match self.random.below(8) {
@@ -375,7 +394,9 @@ impl Generator {
             self.configure(0xF2, 0x00);
         }
         for _ in 0..=self.random.below(4) {
-            let offset = self.random.pick(&[0, 1, 13, 14, 15, 16, 17, 30, 31]);
+            let offset = self
+                .random
+                .pick(&[0, 0, 1, 13, 14, 15, 16, 17, 30, 31, 31, 32]);
             let port = u32::from(base) + offset;
             if self.random.one_in(3) {
                 self.read(1, port);
@@ -439,8 +460,12 @@ impl Generator {
         let Some(port) = self.monitor_port() else {
             return;
         };
-        let control = self.random.pick(&[0x04, 0x04, 0x04, 0x44, 0xFF, 0xFB, 0x00]);
-        let enable = self.random.pick(&[0x11, 0x03, 0x13, 0x13, 0x12, 0x10, 0x01, 0xFF, 0xEC]);
+        let control = self
+            .random
+            .pick(&[0x04, 0x04, 0x04, 0x44, 0xFF, 0xFB, 0x00]);
+        let enable = self
+            .random
+            .pick(&[0x11, 0x03, 0x13, 0x13, 0x12, 0x10, 0x01, 0xFF, 0xEC]);
         self.write(1, port, 0x7C);
         self.write(1, port + 1, control);
         self.write(1, port, 0x7E);
@@ -726,7 +751,9 @@ impl Generator {
         match (self.random.below(6), aimed) {
             (0..=2, 1..=0xFFFE) => aimed - 1 + self.random.below(3),
             (3, _) => self.random.below(0x1_0000),
-            _ => self.random.pick(&[0, 1, 1, 2, 255, 256, 65_534, 65_535, 65_535]),
+            _ => self
+                .random
+                .pick(&[0, 1, 1, 2, 255, 256, 65_534, 65_535, 65_535]),
         }
     }
 
@@ -806,7 +833,9 @@ impl Generator {
             7 => stored_runtime + 0x70 + self.random.below(2),
             8 | 9 => (key + near).saturating_sub(self.random.below(2)),
             10 => stored_key + self.random.below(32),
-            _ => self.random.pick(&[0, 0x70, 0x71, 0xFFFF, 0xFFF0, 0xFFF1, 0x8000, 0x2E2E]),
+            _ => self
+                .random
+                .pick(&[0, 0x70, 0x71, 0xFFFF, 0xFFF0, 0xFFF1, 0x8000, 0x2E2E]),
         };
         port & 0xFFFF
     }
@@ -982,12 +1011,14 @@ impl Generator {
         }
     }
 
-    /// A status and its enable share only a bit that the enable, or neither, keeps in range. Outputs
-    /// are computed from the state as it stands.
+    /// PM1a_STS and PM1a_EN share a bit outside the latter's mask, or outside both. Outputs are
+    /// computed from the state as it stands.
     fn shared_bit_outside_masks(&mut self) {
         let before = self.good_state();
         let mut bytes = before;
-        let bit = self.random.pick(&[0x8000, 0x0800, 0x0010, 0x4000, 0x0002, 0x1000]);
+        let bit = self
+            .random
+            .pick(&[0x8000, 0x0800, 0x0010, 0x4000, 0x0002, 0x1000]);
         put(&mut bytes, state::PM1_STATUS, 2, bit);
         put(&mut bytes, state::PM1_ENABLE, 2, bit);
         if !self.random.one_in(4) {
@@ -1071,11 +1102,15 @@ impl Generator {
             5 => self.write(width, far, value),
             // Too wide, by a little or by much.
             6 => {
-                let wide = self.random.pick(&[0x100, 0x101, 0x155, 0x1_0000, 0x8000_0000]);
+                let wide = self
+                    .random
+                    .pick(&[0x100, 0x101, 0x155, 0x1_0000, 0x8000_0000]);
                 self.write(1, port, wide);
             }
             _ => {
-                let wide = self.random.pick(&[0x1_0000, 0x1_0001, 0x8000_2000, 0xFFFF_FFFF]);
+                let wide = self
+                    .random
+                    .pick(&[0x1_0000, 0x1_0001, 0x8000_2000, 0xFFFF_FFFF]);
                 self.write(2, port, wide);
             }
         }
@@ -1084,18 +1119,28 @@ impl Generator {
     fn bad_width(&mut self) -> u32 {
         match self.random.below(4) {
             0 => self.random.bits(32),
-            _ => self.random.pick(&[0, 3, 5, 6, 7, 8, 16, 0x101, 0x1_0001, 0x1_0004, 0xFFFF_FFFF]),
+            _ => self
+                .random
+                .pick(&[0, 3, 5, 6, 7, 8, 16, 0x101, 0x1_0001, 0x1_0004, 0xFFFF_FFFF]),
         }
     }
 
     fn damaged_event(&mut self) {
         let number = match self.random.below(8) {
             0 => self.random.pick(&[0, 8, 9, 16, 127, 128, 129, 255]) << 24,
-            1 => self.random.pick(&[0x101_0000, 0x101_0001, 0x110_0000, 0x1FF_FFFF]),
-            2 => self.random.pick(&[0x200_0010, 0x200_0011, 0x200_0100, 0x280_0000]),
+            1 => self
+                .random
+                .pick(&[0x101_0000, 0x101_0001, 0x110_0000, 0x1FF_FFFF]),
+            2 => self
+                .random
+                .pick(&[0x200_0010, 0x200_0011, 0x200_0100, 0x280_0000]),
             3 => self.random.pick(&[3, 4, 7]) << 24 | 1 << self.random.below(24),
-            4 => self.random.pick(&[0x500_0004, 0x500_0007, 0x500_0101, 0x580_0000]),
-            5 => self.random.pick(&[0x600_0004, 0x600_0005, 0x600_0100, 0x680_0000]),
+            4 => self
+                .random
+                .pick(&[0x500_0004, 0x500_0007, 0x500_0101, 0x580_0000]),
+            5 => self
+                .random
+                .pick(&[0x600_0004, 0x600_0005, 0x600_0100, 0x680_0000]),
             6 => self.random.next() as u32,
             _ => self.random.pick(&[1, 2, 5, 6]) << 24 | self.random.below(1 << 24),
         };
@@ -1145,7 +1190,10 @@ impl Generator {
             // A number or byte string with too many digits, or a byte string with an odd number.
             5 => line.push(b'0'),
             6 => {
-                let space = line.iter().rposition(|byte| *byte == b' ').map_or(end, |at| at + 1);
+                let space = line
+                    .iter()
+                    .rposition(|byte| *byte == b' ')
+                    .map_or(end, |at| at + 1);
                 line.splice(space..space, *b"00000000");
             }
             7 => {
@@ -1188,10 +1236,15 @@ impl Generator {
                 }
             }
             18 => {
-                line = (0..self.random.below(24)).map(|_| self.stray_byte()).collect();
+                line = (0..self.random.below(24))
+                    .map(|_| self.stray_byte())
+                    .collect();
             }
             19 => {
-                let space = line.iter().position(|byte| *byte == b' ').map_or(0, |at| at + 1);
+                let space = line
+                    .iter()
+                    .position(|byte| *byte == b' ')
+                    .map_or(0, |at| at + 1);
                 let mark: &[u8] = self.random.pick(&[b"0x", b"+", b"-", b"$", b"#"]);
                 line.splice(space..space, mark.iter().copied());
             }
@@ -1236,7 +1289,9 @@ impl Generator {
 
     fn stray_byte(&mut self) -> u8 {
         let byte = match self.random.below(4) {
-            0 => self.random.pick(&[0x00, 0x0D, 0x09, 0x0B, 0x0C, 0x1A, 0x1B, 0x7F]),
+            0 => self
+                .random
+                .pick(&[0x00, 0x0D, 0x09, 0x0B, 0x0C, 0x1A, 0x1B, 0x7F]),
             1 => self.random.byte() | 0x80,
             2 => self.random.pick(b"RWEOSLF 0123456789ABCDEFabcdef"),
             _ => self.random.byte(),

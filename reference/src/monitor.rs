@@ -166,8 +166,12 @@ mod tests {
 
     #[test]
     fn table_is_consistent() {
-        assert!(REGISTERS.windows(2).all(|pair| pair[0].index < pair[1].index));
-        assert!(REGISTERS.iter().all(|register| register.reset & !register.mask == 0));
+        assert!(REGISTERS
+            .windows(2)
+            .all(|pair| pair[0].index < pair[1].index));
+        assert!(REGISTERS
+            .iter()
+            .all(|register| register.reset & !register.mask == 0));
         assert_eq!(REGISTERS[CONFIGURATION].index, 0x40);
         assert_eq!(REGISTERS[INTERRUPT_CONTROL].index, 0x7C);
         assert_eq!(REGISTERS[INTERRUPT_ENABLE].index, 0x7E);

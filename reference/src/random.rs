@@ -19,7 +19,7 @@ impl Random {
 
     /// 0 to bound - 1; 0 for a bound of 0.
     pub fn below(&mut self, bound: u32) -> u32 {
-        ((self.next() >> 32) * u64::from(bound) >> 32) as u32
+        (((self.next() >> 32) * u64::from(bound)) >> 32) as u32
     }
 
     pub fn one_in(&mut self, chances: u32) -> bool {

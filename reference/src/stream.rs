@@ -59,8 +59,9 @@ fn number(word: &[u8]) -> Option<u32> {
     if word.is_empty() || word.len() > NUMBER_DIGITS {
         return None;
     }
-    word.iter()
-        .try_fold(0, |number, digit| Some(number << 4 | u32::from(hex_digit(*digit)?)))
+    word.iter().try_fold(0, |number, digit| {
+        Some(number << 4 | u32::from(hex_digit(*digit)?))
+    })
 }
 
 /// Two hex digits for each byte, the high digit first; only a whole state is of use.
@@ -101,7 +102,11 @@ impl fmt::Display for Reply {
     fn fmt(&self, line: &mut fmt::Formatter<'_>) -> fmt::Result {
         match self {
             Reply::Access(answer, outputs) => {
-                write!(line, "DONE {} {:08X} {outputs}", answer.status, answer.value)
+                write!(
+                    line,
+                    "DONE {} {:08X} {outputs}",
+                    answer.status, answer.value
+                )
             }
             Reply::Event(outputs) => write!(line, "DONE {outputs}"),
             Reply::Refused(refusal) => write!(line, "REFUSED {} 0", refusal.number()),

@@ -17,7 +17,9 @@ fn read(device: &mut Device, width: u32, port: u32) -> (u32, u32) {
 
 /// Gives the status; a write's value answer is 0.
 fn write(device: &mut Device, width: u32, port: u32, value: u32) -> u32 {
-    let answer = device.lone_write(width, port, value).expect("write is taken");
+    let answer = device
+        .lone_write(width, port, value)
+        .expect("write is taken");
     assert_eq!(answer.value, 0);
     answer.status
 }
@@ -65,7 +67,15 @@ fn busy() -> Device {
     device.configuration.key_control = 0x07;
     device.key = [0x5A; 32];
     device.monitor.index = 0x83;
-    for (place, value) in [(0, 0x02), (3, 0x04), (4, 0x13), (5, 0), (8, 0x03), (14, 0), (18, 0x0F)] {
+    for (place, value) in [
+        (0, 0x02),
+        (3, 0x04),
+        (4, 0x13),
+        (5, 0),
+        (8, 0x03),
+        (14, 0),
+        (18, 0x0F),
+    ] {
         device.monitor.registers[place] = value;
     }
     device.acpi.p_cnt = 0x17;
@@ -199,7 +209,11 @@ fn p9_sleep_with_pending_wakes_at_once() {
     assert_eq!(device.acpi.pm1_status, 0x8000);
     assert_eq!(
         device.outputs(),
-        Outputs { sci: false, smi: true, monitor: false }
+        Outputs {
+            sci: false,
+            smi: true,
+            monitor: false
+        }
     );
 
     let mut device = Device::fresh();
@@ -235,7 +249,10 @@ fn vtr_reset_leaves_key_bytes_and_pin_levels() {
     expected.key = [0x5A; 32];
     expected.pin_levels = [true; 8];
     assert_eq!(device, expected);
-    assert_eq!((device.acpi.irq, device.configuration.key_control), (9, 0x04));
+    assert_eq!(
+        (device.acpi.irq, device.configuration.key_control),
+        (9, 0x04)
+    );
 }
 
 #[test]
@@ -312,7 +329,9 @@ fn bases_are_masked_in_use_only() {
 
 #[test]
 fn ticks_are_single_ticks() {
-    for timer in [0, 0x7F_FFF0, 0xFE_FFFF, 0xFF_0000, 0xFF_0001, 0xFF_FFF0, 0xFF_FFFF] {
+    for timer in [
+        0, 0x7F_FFF0, 0xFE_FFFF, 0xFF_0000, 0xFF_0001, 0xFF_FFF0, 0xFF_FFFF,
+    ] {
         for ticks in [1, 2, 16, 17, 0xFFFF] {
             let mut many = Device::fresh();
             many.acpi.timer = timer;
@@ -368,8 +387,18 @@ fn map_values() {
 #[test]
 fn acpi_takes_each_offset_at_its_width() {
     let taken = [
-        (0, 4), (4, 1), (5, 1), (6, 1), (8, 2), (10, 2), (12, 2), (14, 2), (16, 2), (18, 2),
-        (20, 4), (24, 4),
+        (0, 4),
+        (4, 1),
+        (5, 1),
+        (6, 1),
+        (8, 2),
+        (10, 2),
+        (12, 2),
+        (14, 2),
+        (16, 2),
+        (18, 2),
+        (20, 4),
+        (24, 4),
     ];
     for offset in 0..32 {
         for width in [1, 2, 4] {
@@ -393,9 +422,20 @@ fn refusals_come_in_order() {
     assert_eq!(device.lone_write(1, 0x2E, 0x155), Err(Refusal::BadAccess));
     assert_eq!(
         device.lone_write(4, 0x2E, u32::MAX),
-        Ok(Answer { status: 1, value: 0 })
+        Ok(Answer {
+            status: 1,
+            value: 0
+        })
     );
-    for number in [0, 0x0101_0000, 0x0200_0010, 0x0300_0001, 0x0500_0004, 0x0600_0004, 0x0800_0000] {
+    for number in [
+        0,
+        0x0101_0000,
+        0x0200_0010,
+        0x0300_0001,
+        0x0500_0004,
+        0x0600_0004,
+        0x0800_0000,
+    ] {
         assert_eq!(device.lone_event(number), Err(Refusal::BadEvent));
     }
     assert_eq!(device, Device::fresh());
@@ -410,8 +450,14 @@ fn state_bytes_round_trip() {
         assert_eq!(state::decode(&state::encode(&device)), Some(device));
     }
     let bytes = state::encode(&busy());
-    assert_eq!(bytes[state::SETUP_INDEX..state::SETUP_INDEX + 2], [0x41, 0x00]);
-    assert_eq!(bytes[state::TIMER..state::TIMER + 4], [0xFE, 0xFF, 0xFF, 0x00]);
+    assert_eq!(
+        bytes[state::SETUP_INDEX..state::SETUP_INDEX + 2],
+        [0x41, 0x00]
+    );
+    assert_eq!(
+        bytes[state::TIMER..state::TIMER + 4],
+        [0xFE, 0xFF, 0xFF, 0x00]
+    );
 }
 
 fn hex(bytes: &StateBytes) -> String {
@@ -425,7 +471,12 @@ fn loads_in_and_out_of_range() {
         (state::UNLOCKED, 2, "REFUSED 11 0", "DONE 000"),
         (state::ACTIVATE, 2, "LOADED", "REFUSED 11 0"),
         (state::KEY_CONTROL, 8, "LOADED", "REFUSED 11 0"),
-        (state::MONITOR_REGISTERS + 1, 0x45, "REFUSED 11 0", "DONE 000"),
+        (
+            state::MONITOR_REGISTERS + 1,
+            0x45,
+            "REFUSED 11 0",
+            "DONE 000",
+        ),
         (state::MONITOR_REGISTERS + 3, 0x41, "LOADED", "REFUSED 11 0"),
         (state::P_CNT, 0x08, "LOADED", "REFUSED 11 0"),
         (state::CPU_STATE, 1, "LOADED", "REFUSED 11 0"),
@@ -448,7 +499,11 @@ fn loads_in_and_out_of_range() {
         bytes[offset] = byte;
         let load = session.answer(format!("L {}", hex(&bytes)).as_bytes());
         assert_eq!(load.to_string(), load_answer, "offset {offset}");
-        assert_eq!(session.answer(b"E 1000000").to_string(), event_answer, "offset {offset}");
+        assert_eq!(
+            session.answer(b"E 1000000").to_string(),
+            event_answer,
+            "offset {offset}"
+        );
         assert_eq!(session.answer(b"F").to_string(), "FRESH");
         assert_eq!(session.answer(b"E 1000000").to_string(), "DONE 000");
     }
@@ -466,15 +521,46 @@ fn stream_lines() {
     assert_eq!(answers(b"\n"), "UNREAD\n");
     assert_eq!(answers(b"O"), "OUTPUTS 000\n");
     assert_eq!(answers(b"O\n\nF\n"), "OUTPUTS 000\nUNREAD\nFRESH\n");
-    assert_eq!(answers(b"R 1 2f\nR 00000001 0000002F\n"), "DONE 1 000000FF 000\n".repeat(2));
-    assert_eq!(answers(b"W 1 2E 55\nR 1 2E\n"), "DONE 0 00000000 000\n".repeat(2));
-    assert_eq!(answers(b"R 3 2E\nE 0\nR 1 10000"), "REFUSED 4 0\nREFUSED 12 0\nREFUSED 4 0\n");
+    assert_eq!(
+        answers(b"R 1 2f\nR 00000001 0000002F\n"),
+        "DONE 1 000000FF 000\n".repeat(2)
+    );
+    assert_eq!(
+        answers(b"W 1 2E 55\nR 1 2E\n"),
+        "DONE 0 00000000 000\n".repeat(2)
+    );
+    assert_eq!(
+        answers(b"R 3 2E\nE 0\nR 1 10000"),
+        "REFUSED 4 0\nREFUSED 12 0\nREFUSED 4 0\n"
+    );
     let fresh = format!("STATE {}\n", hex(&state::encode(&Device::fresh())));
     assert_eq!(answers(b"S"), fresh);
     for line in [
-        "o", " O", "O ", "OO", "O O", "R 1", "R 1 2E 0", "R 1  2E", "R\t1 2E", "W 1 2E", "E ", "E",
-        "E 000000001", "E 0x1", "E +1", "E 1G", "O\r", "L", "L ", "L 00", "L 0", "\0", "X",
-        "W 1 2E 55 0", "W 1 2E 55 0 0",
+        "o",
+        " O",
+        "O ",
+        "OO",
+        "O O",
+        "R 1",
+        "R 1 2E 0",
+        "R 1  2E",
+        "R\t1 2E",
+        "W 1 2E",
+        "E ",
+        "E",
+        "E 000000001",
+        "E 0x1",
+        "E +1",
+        "E 1G",
+        "O\r",
+        "L",
+        "L ",
+        "L 00",
+        "L 0",
+        "\0",
+        "X",
+        "W 1 2E 55 0",
+        "W 1 2E 55 0 0",
     ] {
         assert_eq!(answers(line.as_bytes()), "UNREAD\n", "{line:?}");
     }

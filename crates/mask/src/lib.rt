@@ -36,6 +36,12 @@ pub fn has(value: u8, mask: u8) -> bool
     value & mask != 0
 }
 
+pub fn has16(value: u16, mask: u16) -> bool
+    ensures { λ r. ⌜ r ≡ hasBit mask value ⌝ }
+{
+    value & mask != 0
+}
+
 // Write 1 to clear.
 pub fn cleared8(register: u8, ones: u8) -> u8
     ensures { λ r. ⌜ r ≡ cleared 0xFF register ones ⌝ }

@@ -1,0 +1,13 @@
+-- `acpi::is_map_index` meets its contract. Assumes nothing.
+use borrow.Author.Tests.{le-leb, lt-leb}
+use Rattle.acpi.proofs.is_map_index.Statement.{statement}
+use Rattle.acpi.proofs.is_map_index.Tie as tie
+
+returns : tie.Need-returns
+returns c = simp (le-leb _ _ (c .if1 .taken))
+
+returns-2 : tie.Need-returns-2
+returns-2 c = simp (lt-leb _ _ (c .if1 .left))
+
+pub is-map-index-spec : {M : Type 1} → statement M
+is-map-index-spec = tie.close (tie.spec returns returns-2)

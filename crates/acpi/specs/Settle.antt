@@ -1,0 +1,25 @@
+-- Document 01, "ACPI block": pending, SCI, SMI, and what happens "after every event and access, in order".
+use mathlib.Core.Bool.{Bool, false, cond, not, _&&_, _||_}
+use Rattle.mask.specs.Mask.{hasBit}
+use Rattle.acpi.specs.Block.{raised}
+use Rattle.acpi.specs.Fields.{withCpu, withSleeping}
+use Rattle.acpi.specs.declared.Acpi.{Acpi}
+
+-- "Pending: PM1a_STS and PM1a_EN share a one, or GPE0_STS and GPE0_EN do."
+unfoldable pub pending : Acpi → Bool
+pending a = hasBit (a .pm1en) (a .pm1sts) || hasBit (a .gpe0en) (a .gpe0sts)
+
+-- "SCI is pending with SCI_EN, SMI is pending without it"
+unfoldable pub sciOn : Acpi → Bool
+sciOn a = pending a && a .scien
+
+unfoldable pub smiOn : Acpi → Bool
+smiOn a = pending a && not (a .scien)
+
+-- "a sleeping chip with pending wakes and sets WAKE_STS (bit 15)"
+unfoldable pub woken : Acpi → Acpi
+woken a = cond (a .sleeping && pending a) (raised (withSleeping a false) 0x8000) a
+
+-- "either [SCI or SMI] sets CPU state 0"
+unfoldable pub settled : Acpi → Acpi
+settled a = cond (sciOn (woken a) || smiOn (woken a)) (withCpu (woken a) 0) (woken a)
