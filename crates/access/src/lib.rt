@@ -1,6 +1,6 @@
 // An access and its answer: the status table of document 01.
 ghost use mathlib.Core.Path.{_≡_};
-ghost use Rattle.access.specs.Status.{done, failed, readGives};
+ghost use Rattle.access.specs.Status.{done, bare, readGives};
 
 // A read or a write; `value` is what a write writes, and a read does not look at it.
 pub struct Access {
@@ -17,10 +17,15 @@ pub struct Answer {
 
 impl Answer {
     pub const DONE: u32 = 0;
+
     pub const UNCLAIMED: u32 = 1;
+
     pub const BLOCKED: u32 = 2;
+
     pub const UNDEFINED: u32 = 3;
+
     pub const ABSENT: u32 = 4;
+
     pub const IGNORED: u32 = 5;
 
     pub fn done(value: u32) -> Self
@@ -32,9 +37,9 @@ impl Answer {
         }
     }
 
-    // An answer that is not done has no value of its own: `read_gives` says what is read.
-    pub fn failed(status: u32) -> Self
-        ensures { λ r. ⌜ r ≡ failed status ⌝ }
+    // An answer with no value of its own: a write, or a read that is not done.
+    pub fn bare(status: u32) -> Self
+        ensures { λ r. ⌜ r ≡ bare status ⌝ }
     {
         Answer { status, value: 0 }
     }

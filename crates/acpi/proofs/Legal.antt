@@ -24,9 +24,10 @@ map-index i h =
     (leb-true 0x10 i (and-left (leb 0x10 i) (leb i 0x17) h), leb-true i 0x17 (and-right (leb 0x10 i) (leb i 0x17) h))
 
 pub gpe-target : (low : ℕ) → isGpeTarget low ≡ true → (0x10 ≤ low) × (low < 0x20)
-gpe-target low h =
-    (leb-true 0x10 low (and-left (leb 0x10 low) (ltb low 0x20) h),
-    ltb-true low 0x20 (and-right (leb 0x10 low) (ltb low 0x20) h))
+gpe-target low h = (
+  leb-true 0x10 low (and-left (leb 0x10 low) (ltb low 0x20) h),
+  ltb-true low 0x20 (and-right (leb 0x10 low) (ltb low 0x20) h),
+)
 
 pub setup-index : (i : ℕ) → isSetupIndex i ≡ true → i ≤ 0x41
 setup-index i h =

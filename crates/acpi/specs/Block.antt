@@ -17,8 +17,20 @@ use Rattle.acpi.specs.declared.Written.{Written}
 -- "Reset 2 also the ACPI block: all 0 and awake, IRQ 9, timer 0, CPU state 0; pin levels stay."
 abbrev pub cleared : List Bool → Acpi
 cleared ls = record {
-  pcnt = 0; cpu = 0; scien = false; pm1sts = 0; pm1en = 0; pm1cnt = 0; sleeping = false; setupidx = 0; gpe0sts = 0;
-  gpe0en = 0; maps = replicate 8 0; irq = 9; timer = 0; levels = ls
+  pcnt = 0;
+  cpu = 0;
+  scien = false;
+  pm1sts = 0;
+  pm1en = 0;
+  pm1cnt = 0;
+  sleeping = false;
+  setupidx = 0;
+  gpe0sts = 0;
+  gpe0en = 0;
+  maps = replicate 8 0;
+  irq = 9;
+  timer = 0;
+  levels = ls;
 }
 
 abbrev pub resetAcpi : Acpi → Acpi

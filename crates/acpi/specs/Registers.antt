@@ -4,11 +4,19 @@ use mathlib.Core.Bool.{Bool, true, false, cond, _||_}
 use lib.Bits.{bitAnd, bitOr}
 use lib.Dec.{eqb}
 use Rattle.access.specs.declared.Answer.{Answer}
-use Rattle.access.specs.Status.{done, failed}
+use Rattle.access.specs.Status.{done, bare}
 use Rattle.mask.specs.Mask.{cleared, hasBit}
 use Rattle.acpi.specs.Block.{read, written}
 use Rattle.acpi.specs.Fields.{
-  withCpu, withGpe0en, withGpe0sts, withPcnt, withPm1cnt, withPm1en, withPm1sts, withScien, withSleeping
+  withCpu,
+  withGpe0en,
+  withGpe0sts,
+  withPcnt,
+  withPm1cnt,
+  withPm1en,
+  withPm1sts,
+  withScien,
+  withSleeping,
 }
 use Rattle.acpi.specs.Setup.{setupIndexWritten, setupRead, setupWritten}
 use Rattle.acpi.specs.declared.Acpi.{Acpi}
@@ -47,7 +55,7 @@ acpiRead a offset width =
     cond (takes offset width)
     (cond (eqb offset 4) (read (done 0) (withCpu a 2))
     (cond (eqb offset 5) (read (done 0) (withCpu a 3)) (read (registerRead a offset) a)))
-    (read (failed 1) a)
+    (read (bare 1) a)
 
 -- ---- writes
 -- "6 (1) SMI_CMD: 1 sets SCI_EN, 2 clears it, other values status 5"

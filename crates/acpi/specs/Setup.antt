@@ -5,7 +5,7 @@ use lib.Bits.{bitOr}
 use lib.Dec.{eqb, leb}
 use lib.ListN.{getD, set}
 use Rattle.access.specs.declared.Answer.{Answer}
-use Rattle.access.specs.Status.{done, failed}
+use Rattle.access.specs.Status.{done, bare}
 use Rattle.acpi.specs.Block.{isMapIndex, isSetupIndex, raised, written}
 use Rattle.acpi.specs.Fields.{withIrq, withMaps, withSetupidx}
 use Rattle.acpi.specs.Map.{legalMap}
@@ -22,7 +22,7 @@ unfoldable pub setupRead : Acpi → Answer
 setupRead a =
     cond (isMapIndex (a .setupidx)) (done (getD (a .maps) (a .setupidx - 0x10) 0))
     (cond (eqb (a .setupidx) 0x41) (done (a .irq))
-    (cond (eqb (a .setupidx) 0x40) (done 0) (cond (eqb (a .setupidx) 0x00) (done 0) (failed 3))))
+    (cond (eqb (a .setupidx) 0x40) (done 0) (cond (eqb (a .setupidx) 0x00) (done 0) (bare 3))))
 
 -- "Other values, and an IRQ above 15, are status 5."
 unfoldable pub mapWritten : Acpi → ℕ → ℕ → Written

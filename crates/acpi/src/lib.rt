@@ -7,13 +7,33 @@ ghost use mathlib.Core.Path.{_≡_};
 ghost use Prim.Native.Nat.{_<_};
 ghost use Rattle.mask.specs.Every.{allBelow};
 ghost use Rattle.acpi.specs.Block.{
-    freshAcpi, resetAcpi, acpiInRange, mapInRange, isCpuState, isMapIndex, isSetupIndex, read, written, raised
+  freshAcpi,
+  resetAcpi,
+  acpiInRange,
+  mapInRange,
+  isCpuState,
+  isMapIndex,
+  isSetupIndex,
+  read,
+  written,
+  raised,
 };
 ghost use Rattle.acpi.specs.Registers.{
-    takes, controlRead, registerRead, acpiRead, commandWritten, controlWritten, registerWritten, acpiWritten
+  takes,
+  controlRead,
+  registerRead,
+  acpiRead,
+  commandWritten,
+  controlWritten,
+  registerWritten,
+  acpiWritten,
 };
 ghost use Rattle.acpi.specs.Setup.{
-    setupRead, setupIndexWritten, mapWritten, irqWritten, setupWritten
+  setupRead,
+  setupIndexWritten,
+  mapWritten,
+  irqWritten,
+  setupWritten,
 };
 ghost use Rattle.acpi.specs.Settle.{pending, sciOn, smiOn, woken, settled};
 ghost use Rattle.acpi.specs.Happen.{ticked, mapped, pinned};
@@ -52,21 +72,33 @@ pub struct Written {
 
 impl Acpi {
     pub const PCNT_MASK: u8 = 0x17;
+
     pub const PM1STS_MASK: u16 = 0x8F31;
+
     pub const PM1EN_MASK: u16 = 0x0721;
+
     pub const PM1CNT_MASK: u16 = 0x1C02;
+
     pub const ALL: u16 = 0xFFFF;
     // Bits of PM1a_STS.
     pub const TMR_STS: u16 = 0x0001;
+
     pub const BM_STS: u16 = 0x0010;
+
     pub const GBL_STS: u16 = 0x0020;
+
     pub const RTC_STS: u16 = 0x0400;
+
     pub const BUTTON_STS: u16 = 0x0800;
+
     pub const WAKE_STS: u16 = 0x8000;
     // Bit 13 of PM1a_CNT, written 1, puts the chip to sleep.
     pub const SLEEP: u32 = 0x2000;
+
     pub const IRQ_RESET: u8 = 9;
+
     pub const IRQ_LAST: u32 = 15;
+
     pub const TIMER_SIZE: u32 = 0x0100_0000;
 
     pub fn fresh() -> Self
@@ -253,7 +285,7 @@ impl Acpi {
         if index == 0x00 {
             return Answer::done(0);
         }
-        Answer::failed(Answer::UNDEFINED)
+        Answer::bare(Answer::UNDEFINED)
     }
 
     fn register_read(self, offset: u32) -> Answer
@@ -303,7 +335,7 @@ impl Acpi {
         ensures { λ r. ⌜ r ≡ acpiRead self offset width ⌝ }
     {
         if !takes(offset, width) {
-            return got(Answer::failed(Answer::UNCLAIMED), self);
+            return got(Answer::bare(Answer::UNCLAIMED), self);
         }
         if offset == 4 {
             self.cpu = 2;

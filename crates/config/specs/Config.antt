@@ -4,7 +4,7 @@ use mathlib.Core.Bool.{Bool, true, false, cond, _&&_}
 use lib.Bits.{bitAnd}
 use lib.Dec.{eqb}
 use Rattle.access.specs.declared.Answer.{Answer}
-use Rattle.access.specs.Status.{done, failed}
+use Rattle.access.specs.Status.{done, bare}
 use Rattle.mask.specs.Mask.{within}
 use Rattle.config.specs.declared.Config.{Config}
 use Rattle.config.specs.declared.Written.{Written}
@@ -12,50 +12,91 @@ use Rattle.config.specs.declared.Written.{Written}
 -- "Reset 0: configuration locked, its index, device number, bases and activate 0, key control 04h."
 abbrev pub freshConfig : Config
 freshConfig = record {
-  unlocked = false; index = 0; number = 0; activate = 0; runtime = 0; key = 0; control = 0x04
+  unlocked = false;
+  index = 0;
+  number = 0;
+  activate = 0;
+  runtime = 0;
+  key = 0;
+  control = 0x04;
 }
 
 -- ---- the configuration with one field changed
 abbrev pub withUnlocked : Config → Bool → Config
 withUnlocked g b = record {
-  unlocked = b; index = g .index; number = g .number; activate = g .activate; runtime = g .runtime; key = g .key;
-  control = g .control
+  unlocked = b;
+  index = g .index;
+  number = g .number;
+  activate = g .activate;
+  runtime = g .runtime;
+  key = g .key;
+  control = g .control;
 }
 
 abbrev pub withIndex : Config → ℕ → Config
 withIndex g v = record {
-  unlocked = g .unlocked; index = v; number = g .number; activate = g .activate; runtime = g .runtime; key = g .key;
-  control = g .control
+  unlocked = g .unlocked;
+  index = v;
+  number = g .number;
+  activate = g .activate;
+  runtime = g .runtime;
+  key = g .key;
+  control = g .control;
 }
 
 abbrev pub withNumber : Config → ℕ → Config
 withNumber g v = record {
-  unlocked = g .unlocked; index = g .index; number = v; activate = g .activate; runtime = g .runtime; key = g .key;
-  control = g .control
+  unlocked = g .unlocked;
+  index = g .index;
+  number = v;
+  activate = g .activate;
+  runtime = g .runtime;
+  key = g .key;
+  control = g .control;
 }
 
 abbrev pub withActivate : Config → ℕ → Config
 withActivate g v = record {
-  unlocked = g .unlocked; index = g .index; number = g .number; activate = v; runtime = g .runtime; key = g .key;
-  control = g .control
+  unlocked = g .unlocked;
+  index = g .index;
+  number = g .number;
+  activate = v;
+  runtime = g .runtime;
+  key = g .key;
+  control = g .control;
 }
 
 abbrev pub withRuntime : Config → ℕ → Config
 withRuntime g v = record {
-  unlocked = g .unlocked; index = g .index; number = g .number; activate = g .activate; runtime = v; key = g .key;
-  control = g .control
+  unlocked = g .unlocked;
+  index = g .index;
+  number = g .number;
+  activate = g .activate;
+  runtime = v;
+  key = g .key;
+  control = g .control;
 }
 
 abbrev pub withKey : Config → ℕ → Config
 withKey g v = record {
-  unlocked = g .unlocked; index = g .index; number = g .number; activate = g .activate; runtime = g .runtime; key = v;
-  control = g .control
+  unlocked = g .unlocked;
+  index = g .index;
+  number = g .number;
+  activate = g .activate;
+  runtime = g .runtime;
+  key = v;
+  control = g .control;
 }
 
 abbrev pub withControl : Config → ℕ → Config
 withControl g v = record {
-  unlocked = g .unlocked; index = g .index; number = g .number; activate = g .activate; runtime = g .runtime; key = g .key;
-  control = v
+  unlocked = g .unlocked;
+  index = g .index;
+  number = g .number;
+  activate = g .activate;
+  runtime = g .runtime;
+  key = g .key;
+  control = v;
 }
 
 abbrev pub written : ℕ → Config → Written
@@ -74,7 +115,7 @@ keyBase g = bitAnd (g .key) 0xFFE0
 
 -- ---- reads. "Locked: [..] any read, and port 002Fh have status 1. Unlocked: [..] a read gives the index."
 unfoldable pub configIndexRead : Config → Answer
-configIndexRead g = cond (g .unlocked) (done (g .index)) (failed 1)
+configIndexRead g = cond (g .unlocked) (done (g .index)) (bare 1)
 
 -- "With device number 0Ah: 30h activate; 60h/61h runtime base high/low; 62h/63h key base high/low; F2h key control.
 -- The rest is status 4."
@@ -85,14 +126,14 @@ registerRead g =
     (cond (eqb (g .index) 0x61) (done (g .runtime % 256))
     (cond (eqb (g .index) 0x62) (done (g .key / 256))
     (cond (eqb (g .index) 0x63) (done (g .key % 256))
-    (cond (eqb (g .index) 0xF2) (done (g .control)) (failed 4))))))
+    (cond (eqb (g .index) 0xF2) (done (g .control)) (bare 4))))))
 
 -- "Data registers: 07h device number (one byte, any value)."
 unfoldable pub configDataRead : Config → Answer
 configDataRead g =
     cond (g .unlocked)
-    (cond (eqb (g .index) 0x07) (done (g .number)) (cond (eqb (g .number) 0x0A) (registerRead g) (failed 4)))
-    (failed 1)
+    (cond (eqb (g .index) 0x07) (done (g .number)) (cond (eqb (g .number) 0x0A) (registerRead g) (bare 4)))
+    (bare 1)
 
 -- ---- writes. "Locked: 55h written to 002Eh unlocks; any other write [has] status 1. Unlocked: AAh written to 002Eh
 -- locks; any other value, 55h too, becomes the index."

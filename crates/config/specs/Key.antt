@@ -5,7 +5,7 @@ use lib.Bits.{bitAnd}
 use lib.Dec.{eqb}
 use lib.ListN.{getD, set, replicate}
 use Rattle.access.specs.declared.Answer.{Answer}
-use Rattle.access.specs.Status.{done, failed}
+use Rattle.access.specs.Status.{done, bare}
 use Rattle.config.specs.declared.key.Key.{Key}
 use Rattle.config.specs.declared.key.KeyWritten.{KeyWritten}
 
@@ -16,7 +16,7 @@ freshKey = record { bytes = replicate 32 0 }
 -- "Key control: bit 2 write-lock, bit 1 read-lock, bit 0 lock. [..] A key read under read-lock and a key write under
 -- write-lock have status 2."
 unfoldable pub keyRead : Key → ℕ → ℕ → Answer
-keyRead k control at = cond (eqb (bitAnd control 0x02) 0) (done (getD (k .bytes) at 0)) (failed 2)
+keyRead k control at = cond (eqb (bitAnd control 0x02) 0) (done (getD (k .bytes) at 0)) (bare 2)
 
 unfoldable pub keyWritten : Key → ℕ → ℕ → ℕ → KeyWritten
 keyWritten k control at v =

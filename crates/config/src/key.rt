@@ -16,6 +16,7 @@ pub struct KeyWritten {
 
 impl Key {
     pub const READ_LOCK: u8 = 0x02;
+
     pub const WRITE_LOCK: u8 = 0x04;
 
     pub fn fresh() -> Self
@@ -31,7 +32,7 @@ impl Key {
         if control & Key::READ_LOCK == 0 {
             return Answer::done(mask::wide8(self.bytes[at]));
         }
-        Answer::failed(Answer::BLOCKED)
+        Answer::bare(Answer::BLOCKED)
     }
 
     pub fn write(mut self, control: u8, at: usize, value: u8) -> KeyWritten

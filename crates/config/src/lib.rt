@@ -7,8 +7,16 @@ ghost use mathlib.Core.Path.{_≡_};
 ghost use Prim.Native.Nat.{_+_, _*_, _/_, _%_};
 ghost use lib.Bits.{bitAnd};
 ghost use Rattle.config.specs.Config.{
-    freshConfig, configInRange, runtimeBase, keyBase, configIndexRead, configDataRead, configIndexWritten, configDataWritten, controlWritten,
-    written
+  freshConfig,
+  configInRange,
+  runtimeBase,
+  keyBase,
+  configIndexRead,
+  configDataRead,
+  configIndexWritten,
+  configDataWritten,
+  controlWritten,
+  written,
 };
 
 pub struct Config {
@@ -30,14 +38,21 @@ pub struct Written {
 
 impl Config {
     pub const UNLOCK: u8 = 0x55;
+
     pub const LOCK: u8 = 0xAA;
     // The device whose registers stand behind the device number.
     pub const DEVICE: u8 = 0x0A;
+
     pub const ACTIVATE_MASK: u8 = 0x01;
+
     pub const CONTROL_MASK: u8 = 0x07;
+
     pub const CONTROL_RESET: u8 = 0x04;
+
     pub const CONTROL_LOCK: u8 = 0x01;
+
     pub const RUNTIME_BASE_MASK: u16 = 0xFF80;
+
     pub const KEY_BASE_MASK: u16 = 0xFFE0;
 
     pub fn fresh() -> Self
@@ -82,7 +97,7 @@ impl Config {
         if self.unlocked {
             return Answer::done(mask::wide8(self.index));
         }
-        Answer::failed(Answer::UNCLAIMED)
+        Answer::bare(Answer::UNCLAIMED)
     }
 
     pub fn read_data(self) -> Answer
@@ -94,7 +109,7 @@ impl Config {
                 return Answer::done(mask::wide8(self.number));
             }
             if self.number != Config::DEVICE {
-                return Answer::failed(Answer::ABSENT);
+                return Answer::bare(Answer::ABSENT);
             }
             if index == 0x30 {
                 return Answer::done(mask::wide8(self.activate));
@@ -114,9 +129,9 @@ impl Config {
             if index == 0xF2 {
                 return Answer::done(mask::wide8(self.control));
             }
-            return Answer::failed(Answer::ABSENT);
+            return Answer::bare(Answer::ABSENT);
         }
-        Answer::failed(Answer::UNCLAIMED)
+        Answer::bare(Answer::UNCLAIMED)
     }
 
     // Only 55h does anything while locked, and 55h is an index like any other while unlocked.

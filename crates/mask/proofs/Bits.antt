@@ -11,23 +11,23 @@ record Digitwise (f : ℕ → ℕ → ℕ → ℕ) : Type 0 where
   last : (a b c : ℕ) → f a b c % 2 ≡ f (a % 2) (b % 2) (c % 2)
 
 module _
-  (f g : ℕ → ℕ → ℕ → ℕ)
-  (df : Digitwise f)
-  (dg : Digitwise g)
-  (digits : (x y z : ℕ) → x < 2 → y < 2 → z < 2 → f x y z ≡ g x y z)
+    (f g : ℕ → ℕ → ℕ → ℕ)
+    (df : Digitwise f)
+    (dg : Digitwise g)
+    (digits : (x y z : ℕ) → x < 2 → y < 2 → z < 2 → f x y z ≡ g x y z)
   where
-  upTo : (n a b c : ℕ) → a ≤ n → b ≤ n → c ≤ n → f a b c ≡ g a b c
-  upTo zero a b c ha hb hc = digits a b c (omega arith) (omega arith) (omega arith)
-  upTo (suc n) a b c ha hb hc =
-      let h : f a b c / 2 ≡ g a b c / 2 =
-          df .half a b c ∙ upTo n (a / 2) (b / 2) (c / 2) (omega arith) (omega arith) (omega arith) ∙ sym (dg .half a b c) in
-      let l : f a b c % 2 ≡ g a b c % 2 =
-          df .last a b c ∙ digits (a % 2) (b % 2) (c % 2) (omega arith) (omega arith) (omega arith)
-          ∙ sym (dg .last a b c) in
-      omega arith
+    upTo : (n a b c : ℕ) → a ≤ n → b ≤ n → c ≤ n → f a b c ≡ g a b c
+    upTo zero a b c ha hb hc = digits a b c (omega arith) (omega arith) (omega arith)
+    upTo (suc n) a b c ha hb hc =
+        let h : f a b c / 2 ≡ g a b c / 2 =
+        df .half a b c ∙ upTo n (a / 2) (b / 2) (c / 2) (omega arith) (omega arith) (omega arith) ∙ sym (dg .half a b c) in
+        let l : f a b c % 2 ≡ g a b c % 2 =
+        df .last a b c ∙ digits (a % 2) (b % 2) (c % 2) (omega arith) (omega arith) (omega arith)
+        ∙ sym (dg .last a b c) in
+        omega arith
 
-  same : (a b c : ℕ) → f a b c ≡ g a b c
-  same a b c = upTo (a + b + c) a b c (omega arith) (omega arith) (omega arith)
+    same : (a b c : ℕ) → f a b c ≡ g a b c
+    same a b c = upTo (a + b + c) a b c (omega arith) (omega arith) (omega arith)
 
 and-and : Digitwise (λ a b c. bitAnd (bitAnd a b) c)
 and-and = record {
@@ -67,8 +67,8 @@ and-or = record {
 
 -- a law of digits, from its eight cases
 eight : (P : ℕ → ℕ → ℕ → Type 0)
-  → P 0 0 0 → P 0 0 1 → P 0 1 0 → P 0 1 1 → P 1 0 0 → P 1 0 1 → P 1 1 0 → P 1 1 1
-  → (x y z : ℕ) → x < 2 → y < 2 → z < 2 → P x y z
+    → P 0 0 0 → P 0 0 1 → P 0 1 0 → P 0 1 1 → P 1 0 0 → P 1 0 1 → P 1 1 0 → P 1 1 1
+    → (x y z : ℕ) → x < 2 → y < 2 → z < 2 → P x y z
 eight P a b c d e f g h zero zero zero i j k = a
 eight P a b c d e f g h zero zero (suc zero) i j k = b
 eight P a b c d e f g h zero (suc zero) zero i j k = c

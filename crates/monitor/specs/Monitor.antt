@@ -6,7 +6,7 @@ use lib.Bits.{bitAnd, bitOr}
 use lib.Dec.{eqb}
 use lib.ListN.{getD, set}
 use Rattle.access.specs.declared.Answer.{Answer}
-use Rattle.access.specs.Status.{done, failed}
+use Rattle.access.specs.Status.{done, bare}
 use Rattle.mask.specs.Every.{allBelow}
 use Rattle.mask.specs.Mask.{within, cleared, hasBit}
 use Rattle.monitor.specs.Table.{absent, readOnly, lock, free, clear, kindOf, resetOf, maskOf, slotOf, storedIndices}
@@ -41,7 +41,7 @@ lockSet m = hasBit 0x02 (getD (m .registers) 0 0)
 -- ---- the data register. "those not listed are status 4"
 unfoldable pub monitorDataRead : Monitor → Answer
 monitorDataRead m =
-    cond (eqb (kindOf (m .index)) absent) (failed 4)
+    cond (eqb (kindOf (m .index)) absent) (bare 4)
     (cond (eqb (kindOf (m .index)) readOnly) (done (resetOf (m .index))) (done (register m (m .index))))
 
 abbrev pub monitorIndexWritten : Monitor → ℕ → Monitor

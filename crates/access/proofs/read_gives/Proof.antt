@@ -14,16 +14,18 @@ all-ones-requires c κs = search needs
 
 returns-2 : tie.Need-returns-2
 unfolding readGives
-returns-2 c = rw
-    (ne-eqb _ _ (c .before .before .if1 .left),
-    eq-eqb _ _ (c .before .if2 .taken),
-    c .all-ones .ensures)
+returns-2 c = rw (
+  ne-eqb _ _ (c .before .before .if1 .left),
+  eq-eqb _ _ (c .before .if2 .taken),
+  c .all-ones .ensures,
+)
 
 returns-3 : tie.Need-returns-3
 unfolding readGives
-returns-3 c = rw
-    (ne-eqb _ _ (c .before .if1 .left),
-    ne-eqb _ _ (c .if2 .left))
+returns-3 c = rw (
+  ne-eqb _ _ (c .before .if1 .left),
+  ne-eqb _ _ (c .if2 .left),
+)
 
 pub read-gives-spec : {M : Type 1} → statement M
 read-gives-spec = tie.close (tie.spec returns all-ones-requires returns-2 returns-3)

@@ -49,9 +49,10 @@ loop-again : tie.Need-loop-again Inv-loop μ-loop
 loop-again c =
     let k = c .before .before .before .before .loop .k in
     let maps = c .before .before .before .before .before .args .t1 in
-    let t = rw (c .before .before .wide16 .ensures) at (c .before .is-legal .ensures) in
-    (omega arith,
-    all-more k (mapInRange maps) (c .before .before .before .before .loop .inv .1) (sym t ∙ not-false _ (c .if1 .left)))
+    let t = rw (c .before .before .wide16 .ensures) at (c .before .is-legal .ensures) in (
+      omega arith,
+      all-more k (mapInRange maps) (c .before .before .before .before .loop .inv .1) (sym t ∙ not-false _ (c .if1 .left)),
+    )
 
 returns-2 : tie.Need-returns-2 Inv-loop μ-loop
 returns-2 c =

@@ -10,15 +10,17 @@ has-requires-2 : tie.Need-has-requires-2
 has-requires-2 c κs = search needs
 
 returns : tie.Need-returns
-returns c = simp
-    (← (c .before .before .has .ensures),
-    c .before .if1 .taken,
-    ← (c .has2 .ensures))
+returns c = simp (
+  ← (c .before .before .has .ensures),
+  c .before .if1 .taken,
+  ← (c .has2 .ensures),
+)
 
 returns-2 : tie.Need-returns-2
-returns-2 c = simp
-    (← (c .before .has .ensures),
-    c .if1 .left)
+returns-2 c = simp (
+  ← (c .before .has .ensures),
+  c .if1 .left,
+)
 
 pub both-spec : {M : Type 1} → statement M
 both-spec = tie.close (tie.spec has-requires has-requires-2 returns returns-2)

@@ -7,9 +7,10 @@ wide16-requires : tie.Need-wide16-requires
 wide16-requires c κs = search needs
 
 returns : tie.Need-returns
-returns c = simp
-    (c .before .before .if1 .taken,
-    c .wide16 .ensures)
+returns c = simp (
+  c .before .before .if1 .taken,
+  c .wide16 .ensures,
+)
 
 wide16-requires-2 : tie.Need-wide16-requires-2
 wide16-requires-2 c κs = search needs

@@ -13,20 +13,22 @@ wrote-requires c κs = search needs
 
 returns : tie.Need-returns
 unfolding controlWritten
-returns c = simp
-    (c .before .before .masked16 .ensures,
-    ne-eqb _ _ (c .before .if1 .taken),
-    c .wrote .ensures)
+returns c = simp (
+  c .before .before .masked16 .ensures,
+  ne-eqb _ _ (c .before .if1 .taken),
+  c .wrote .ensures,
+)
 
 wrote-requires-2 : tie.Need-wrote-requires-2
 wrote-requires-2 c κs = search needs
 
 returns-2 : tie.Need-returns-2
 unfolding controlWritten
-returns-2 c = simp
-    (c .before .before .masked16 .ensures,
-    eq-eqb _ _ (c .before .if1 .left),
-    c .wrote2 .ensures)
+returns-2 c = simp (
+  c .before .before .masked16 .ensures,
+  eq-eqb _ _ (c .before .if1 .left),
+  c .wrote2 .ensures,
+)
 
 pub control-written-spec : {M : Type 1} → statement M
 control-written-spec =

@@ -13,18 +13,20 @@ wrote-requires c κs = search needs
 
 returns : tie.Need-returns
 unfolding irqWritten
-returns c = simp
-    (le-leb _ _ (c .before .if1 .taken),
-    c .wrote .ensures)
+returns c = simp (
+  le-leb _ _ (c .before .if1 .taken),
+  c .wrote .ensures,
+)
 
 wrote-requires-2 : tie.Need-wrote-requires-2
 wrote-requires-2 c κs = search needs
 
 returns-2 : tie.Need-returns-2
 unfolding irqWritten
-returns-2 c = simp
-    (lt-leb _ _ (c .before .if1 .left),
-    c .wrote2 .ensures)
+returns-2 c = simp (
+  lt-leb _ _ (c .before .if1 .left),
+  c .wrote2 .ensures,
+)
 
 pub irq-written-spec : {M : Type 1} → statement M
 irq-written-spec = tie.close (tie.spec cast-self wrote-requires returns wrote-requires-2 returns-2)

@@ -25,20 +25,22 @@ wrote-requires c κs = search needs
 
 returns : tie.Need-returns
 unfolding mapWritten
-returns c = simp
-    (← (c .before .before .is-legal .ensures),
-    c .before .if1 .taken,
-    c .wrote .ensures)
+returns c = simp (
+  ← (c .before .before .is-legal .ensures),
+  c .before .if1 .taken,
+  c .wrote .ensures,
+)
 
 wrote-requires-2 : tie.Need-wrote-requires-2
 wrote-requires-2 c κs = search needs
 
 returns-2 : tie.Need-returns-2
 unfolding mapWritten
-returns-2 c = simp
-    (← (c .before .before .is-legal .ensures),
-    c .before .if1 .left,
-    c .wrote2 .ensures)
+returns-2 c = simp (
+  ← (c .before .before .is-legal .ensures),
+  c .before .if1 .left,
+  c .wrote2 .ensures,
+)
 
 pub map-written-spec : {M : Type 1} → statement M
 map-written-spec =

@@ -12,19 +12,21 @@ raise-requires c κs = search needs
 
 returns : tie.Need-returns
 unfolding mapped
-returns c = simp
-    (eq-eqb _ _ (c .before .if1 .taken),
-    c .raise .ensures)
+returns c = simp (
+  eq-eqb _ _ (c .before .if1 .taken),
+  c .raise .ensures,
+)
 
 raise-requires-2 : tie.Need-raise-requires-2
 raise-requires-2 c κs = search needs
 
 returns-2 : tie.Need-returns-2
 unfolding mapped
-returns-2 c = simp
-    (ne-eqb _ _ (c .before .before .if1 .left),
-    eq-eqb _ _ (c .before .if2 .taken),
-    c .raise2 .ensures)
+returns-2 c = simp (
+  ne-eqb _ _ (c .before .before .if1 .left),
+  eq-eqb _ _ (c .before .if2 .taken),
+  c .raise2 .ensures,
+)
 
 is-gpe-target-requires : tie.Need-is-gpe-target-requires
 is-gpe-target-requires c κs = search needs
@@ -34,20 +36,22 @@ gpe-bit-requires c κs = gpe-target _ (sym (c .before .is-gpe-target .ensures) �
 
 returns-3 : tie.Need-returns-3
 unfolding mapped
-returns-3 c = simp
-    (ne-eqb _ _ (c .before .before .before .before .before .if1 .left),
-    ne-eqb _ _ (c .before .before .before .before .if2 .left),
-    ← (c .before .before .before .is-gpe-target .ensures),
-    c .before .before .if3 .taken,
-    c .before .gpe-bit .ensures)
+returns-3 c = simp (
+  ne-eqb _ _ (c .before .before .before .before .before .if1 .left),
+  ne-eqb _ _ (c .before .before .before .before .if2 .left),
+  ← (c .before .before .before .is-gpe-target .ensures),
+  c .before .before .if3 .taken,
+  c .before .gpe-bit .ensures,
+)
 
 returns-4 : tie.Need-returns-4
 unfolding mapped
-returns-4 c = simp
-    (ne-eqb _ _ (c .before .before .before .if1 .left),
-    ne-eqb _ _ (c .before .before .if2 .left),
-    ← (c .before .is-gpe-target .ensures),
-    c .if3 .left)
+returns-4 c = simp (
+  ne-eqb _ _ (c .before .before .before .if1 .left),
+  ne-eqb _ _ (c .before .before .if2 .left),
+  ← (c .before .is-gpe-target .ensures),
+  c .if3 .left,
+)
 
 pub mapped-spec : {M : Type 1} → statement M
 mapped-spec =

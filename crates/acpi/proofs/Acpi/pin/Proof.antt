@@ -24,16 +24,18 @@ mapped-requires c κs = search needs
 
 returns : tie.Need-returns
 unfolding pinned
-returns c = simp
-    (← (c .before .before .in-direction .ensures),
-    c .before .if1 .taken,
-    c .mapped .ensures)
+returns c = simp (
+  ← (c .before .before .in-direction .ensures),
+  c .before .if1 .taken,
+  c .mapped .ensures,
+)
 
 returns-2 : tie.Need-returns-2
 unfolding pinned
-returns-2 c = simp
-    (← (c .before .in-direction .ensures),
-    c .if1 .left)
+returns-2 c = simp (
+  ← (c .before .in-direction .ensures),
+  c .if1 .left,
+)
 
 pub pin-spec : {M : Type 1} → statement M
 pin-spec =

@@ -19,20 +19,22 @@ wrote-requires c κs = search needs
 
 returns : tie.Need-returns
 unfolding setupIndexWritten
-returns c = simp
-    (← (c .before .before .is-setup-index .ensures),
-    c .before .if1 .taken,
-    c .wrote .ensures)
+returns c = simp (
+  ← (c .before .before .is-setup-index .ensures),
+  c .before .if1 .taken,
+  c .wrote .ensures,
+)
 
 wrote-requires-2 : tie.Need-wrote-requires-2
 wrote-requires-2 c κs = search needs
 
 returns-2 : tie.Need-returns-2
 unfolding setupIndexWritten
-returns-2 c = simp
-    (← (c .before .before .is-setup-index .ensures),
-    c .before .if1 .left,
-    c .wrote2 .ensures)
+returns-2 c = simp (
+  ← (c .before .before .is-setup-index .ensures),
+  c .before .if1 .left,
+  c .wrote2 .ensures,
+)
 
 pub setup-index-written-spec : {M : Type 1} → statement M
 setup-index-written-spec =

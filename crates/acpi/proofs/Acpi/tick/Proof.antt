@@ -14,16 +14,18 @@ raise-requires c κs = search needs
 
 returns : tie.Need-returns
 unfolding ticked
-returns c = simp
-    (← (remainder _ _ _ (c .before .before .wrapping-add-u32 .ensures)),
-    lt-ltb _ _ (c .before .if1 .taken),
-    c .raise .ensures)
+returns c = simp (
+  ← (remainder _ _ _ (c .before .before .wrapping-add-u32 .ensures)),
+  lt-ltb _ _ (c .before .if1 .taken),
+  c .raise .ensures,
+)
 
 returns-2 : tie.Need-returns-2
 unfolding ticked
-returns-2 c = simp
-    (← (remainder _ _ _ (c .before .wrapping-add-u32 .ensures)),
-    le-ltb _ _ (c .if1 .left))
+returns-2 c = simp (
+  ← (remainder _ _ _ (c .before .wrapping-add-u32 .ensures)),
+  le-ltb _ _ (c .if1 .left),
+)
 
 pub tick-spec : {M : Type 1} → statement M
 tick-spec = tie.close (tie.spec wrapping-add-u32-requires raise-requires returns returns-2)

@@ -12,18 +12,20 @@ raise-requires c κs = search needs
 
 returns : tie.Need-returns
 unfolding woken
-returns c = simp
-    (c .before .before .before .if1 .taken,
-    ← (c .before .before .pending .ensures),
-    c .before .if2 .taken,
-    c .raise .ensures)
+returns c = simp (
+  c .before .before .before .if1 .taken,
+  ← (c .before .before .pending .ensures),
+  c .before .if2 .taken,
+  c .raise .ensures,
+)
 
 returns-2 : tie.Need-returns-2
 unfolding woken
-returns-2 c = simp
-    (c .before .before .if1 .taken,
-    ← (c .before .pending .ensures),
-    c .if2 .left)
+returns-2 c = simp (
+  c .before .before .if1 .taken,
+  ← (c .before .pending .ensures),
+  c .if2 .left,
+)
 
 returns-3 : tie.Need-returns-3
 unfolding woken

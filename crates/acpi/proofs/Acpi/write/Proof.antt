@@ -12,20 +12,22 @@ register-written-requires c κs = search needs
 
 returns : tie.Need-returns
 unfolding acpiWritten
-returns c = simp
-    (← (c .before .before .takes .ensures),
-    c .before .if1 .taken,
-    c .register-written .ensures)
+returns c = simp (
+  ← (c .before .before .takes .ensures),
+  c .before .if1 .taken,
+  c .register-written .ensures,
+)
 
 wrote-requires : tie.Need-wrote-requires
 wrote-requires c κs = search needs
 
 returns-2 : tie.Need-returns-2
 unfolding acpiWritten
-returns-2 c = simp
-    (← (c .before .before .takes .ensures),
-    c .before .if1 .left,
-    c .wrote .ensures)
+returns-2 c = simp (
+  ← (c .before .before .takes .ensures),
+  c .before .if1 .left,
+  c .wrote .ensures,
+)
 
 pub write-spec : {M : Type 1} → statement M
 write-spec =

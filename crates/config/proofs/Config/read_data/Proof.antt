@@ -15,22 +15,24 @@ done-requires c κs = search needs
 
 returns : tie.Need-returns
 unfolding configDataRead registerRead registerWritten
-returns c = simp
-    (c .before .before .before .if1 .taken,
-    eq-eqb _ _ (c .before .before .if2 .taken),
-    c .before .wide8 .ensures,
-    c .done .ensures)
+returns c = simp (
+  c .before .before .before .if1 .taken,
+  eq-eqb _ _ (c .before .before .if2 .taken),
+  c .before .wide8 .ensures,
+  c .done .ensures,
+)
 
-failed-requires : tie.Need-failed-requires
-failed-requires c κs = search needs
+bare-requires : tie.Need-bare-requires
+bare-requires c κs = search needs
 
 returns-2 : tie.Need-returns-2
 unfolding configDataRead registerRead registerWritten
-returns-2 c = simp
-    (c .before .before .before .before .if1 .taken,
-    ne-eqb _ _ (c .before .before .before .if2 .left),
-    ne-eqb _ _ (c .before .if3 .taken),
-    c .failed .ensures)
+returns-2 c = simp (
+  c .before .before .before .before .if1 .taken,
+  ne-eqb _ _ (c .before .before .before .if2 .left),
+  ne-eqb _ _ (c .before .if3 .taken),
+  c .bare .ensures,
+)
 
 wide8-requires-2 : tie.Need-wide8-requires-2
 wide8-requires-2 c κs = search needs
@@ -40,13 +42,14 @@ done-requires-2 c κs = search needs
 
 returns-3 : tie.Need-returns-3
 unfolding configDataRead registerRead registerWritten
-returns-3 c = simp
-    (c .before .before .before .before .before .before .if1 .taken,
-    ne-eqb _ _ (c .before .before .before .before .before .if2 .left),
-    eq-eqb _ _ (c .before .before .before .if3 .left),
-    eq-eqb _ _ (c .before .before .if4 .taken),
-    c .before .wide82 .ensures,
-    c .done2 .ensures)
+returns-3 c = simp (
+  c .before .before .before .before .before .before .if1 .taken,
+  ne-eqb _ _ (c .before .before .before .before .before .if2 .left),
+  eq-eqb _ _ (c .before .before .before .if3 .left),
+  eq-eqb _ _ (c .before .before .if4 .taken),
+  c .before .wide82 .ensures,
+  c .done2 .ensures,
+)
 
 high-requires : tie.Need-high-requires
 high-requires c κs = search needs
@@ -59,15 +62,16 @@ done-requires-3 c κs = search needs
 
 returns-4 : tie.Need-returns-4
 unfolding configDataRead registerRead registerWritten
-returns-4 c = simp
-    (c .before .before .before .before .before .before .before .before .if1 .taken,
-    ne-eqb _ _ (c .before .before .before .before .before .before .before .if2 .left),
-    eq-eqb _ _ (c .before .before .before .before .before .if3 .left),
-    ne-eqb _ _ (c .before .before .before .before .if4 .left),
-    eq-eqb _ _ (c .before .before .before .if5 .taken),
-    c .before .before .high .ensures,
-    c .before .wide83 .ensures,
-    c .done3 .ensures)
+returns-4 c = simp (
+  c .before .before .before .before .before .before .before .before .if1 .taken,
+  ne-eqb _ _ (c .before .before .before .before .before .before .before .if2 .left),
+  eq-eqb _ _ (c .before .before .before .before .before .if3 .left),
+  ne-eqb _ _ (c .before .before .before .before .if4 .left),
+  eq-eqb _ _ (c .before .before .before .if5 .taken),
+  c .before .before .high .ensures,
+  c .before .wide83 .ensures,
+  c .done3 .ensures,
+)
 
 low-requires : tie.Need-low-requires
 low-requires c κs = search needs
@@ -80,16 +84,17 @@ done-requires-4 c κs = search needs
 
 returns-5 : tie.Need-returns-5
 unfolding configDataRead registerRead registerWritten
-returns-5 c = simp
-    (c .before .before .before .before .before .before .before .before .before .if1 .taken,
-    ne-eqb _ _ (c .before .before .before .before .before .before .before .before .if2 .left),
-    eq-eqb _ _ (c .before .before .before .before .before .before .if3 .left),
-    ne-eqb _ _ (c .before .before .before .before .before .if4 .left),
-    ne-eqb _ _ (c .before .before .before .before .if5 .left),
-    eq-eqb _ _ (c .before .before .before .if6 .taken),
-    c .before .before .low .ensures,
-    c .before .wide84 .ensures,
-    c .done4 .ensures)
+returns-5 c = simp (
+  c .before .before .before .before .before .before .before .before .before .if1 .taken,
+  ne-eqb _ _ (c .before .before .before .before .before .before .before .before .if2 .left),
+  eq-eqb _ _ (c .before .before .before .before .before .before .if3 .left),
+  ne-eqb _ _ (c .before .before .before .before .before .if4 .left),
+  ne-eqb _ _ (c .before .before .before .before .if5 .left),
+  eq-eqb _ _ (c .before .before .before .if6 .taken),
+  c .before .before .low .ensures,
+  c .before .wide84 .ensures,
+  c .done4 .ensures,
+)
 
 high-requires-2 : tie.Need-high-requires-2
 high-requires-2 c κs = search needs
@@ -102,17 +107,18 @@ done-requires-5 c κs = search needs
 
 returns-6 : tie.Need-returns-6
 unfolding configDataRead registerRead registerWritten
-returns-6 c = simp
-    (c .before .before .before .before .before .before .before .before .before .before .if1 .taken,
-    ne-eqb _ _ (c .before .before .before .before .before .before .before .before .before .if2 .left),
-    eq-eqb _ _ (c .before .before .before .before .before .before .before .if3 .left),
-    ne-eqb _ _ (c .before .before .before .before .before .before .if4 .left),
-    ne-eqb _ _ (c .before .before .before .before .before .if5 .left),
-    ne-eqb _ _ (c .before .before .before .before .if6 .left),
-    eq-eqb _ _ (c .before .before .before .if7 .taken),
-    c .before .before .high2 .ensures,
-    c .before .wide85 .ensures,
-    c .done5 .ensures)
+returns-6 c = simp (
+  c .before .before .before .before .before .before .before .before .before .before .if1 .taken,
+  ne-eqb _ _ (c .before .before .before .before .before .before .before .before .before .if2 .left),
+  eq-eqb _ _ (c .before .before .before .before .before .before .before .if3 .left),
+  ne-eqb _ _ (c .before .before .before .before .before .before .if4 .left),
+  ne-eqb _ _ (c .before .before .before .before .before .if5 .left),
+  ne-eqb _ _ (c .before .before .before .before .if6 .left),
+  eq-eqb _ _ (c .before .before .before .if7 .taken),
+  c .before .before .high2 .ensures,
+  c .before .wide85 .ensures,
+  c .done5 .ensures,
+)
 
 low-requires-2 : tie.Need-low-requires-2
 low-requires-2 c κs = search needs
@@ -125,18 +131,19 @@ done-requires-6 c κs = search needs
 
 returns-7 : tie.Need-returns-7
 unfolding configDataRead registerRead registerWritten
-returns-7 c = simp
-    (c .before .before .before .before .before .before .before .before .before .before .before .if1 .taken,
-    ne-eqb _ _ (c .before .before .before .before .before .before .before .before .before .before .if2 .left),
-    eq-eqb _ _ (c .before .before .before .before .before .before .before .before .if3 .left),
-    ne-eqb _ _ (c .before .before .before .before .before .before .before .if4 .left),
-    ne-eqb _ _ (c .before .before .before .before .before .before .if5 .left),
-    ne-eqb _ _ (c .before .before .before .before .before .if6 .left),
-    ne-eqb _ _ (c .before .before .before .before .if7 .left),
-    eq-eqb _ _ (c .before .before .before .if8 .taken),
-    c .before .before .low2 .ensures,
-    c .before .wide86 .ensures,
-    c .done6 .ensures)
+returns-7 c = simp (
+  c .before .before .before .before .before .before .before .before .before .before .before .if1 .taken,
+  ne-eqb _ _ (c .before .before .before .before .before .before .before .before .before .before .if2 .left),
+  eq-eqb _ _ (c .before .before .before .before .before .before .before .before .if3 .left),
+  ne-eqb _ _ (c .before .before .before .before .before .before .before .if4 .left),
+  ne-eqb _ _ (c .before .before .before .before .before .before .if5 .left),
+  ne-eqb _ _ (c .before .before .before .before .before .if6 .left),
+  ne-eqb _ _ (c .before .before .before .before .if7 .left),
+  eq-eqb _ _ (c .before .before .before .if8 .taken),
+  c .before .before .low2 .ensures,
+  c .before .wide86 .ensures,
+  c .done6 .ensures,
+)
 
 wide8-requires-7 : tie.Need-wide8-requires-7
 wide8-requires-7 c κs = search needs
@@ -146,44 +153,47 @@ done-requires-7 c κs = search needs
 
 returns-8 : tie.Need-returns-8
 unfolding configDataRead registerRead registerWritten
-returns-8 c = simp
-    (c .before .before .before .before .before .before .before .before .before .before .before .if1 .taken,
-    ne-eqb _ _ (c .before .before .before .before .before .before .before .before .before .before .if2 .left),
-    eq-eqb _ _ (c .before .before .before .before .before .before .before .before .if3 .left),
-    ne-eqb _ _ (c .before .before .before .before .before .before .before .if4 .left),
-    ne-eqb _ _ (c .before .before .before .before .before .before .if5 .left),
-    ne-eqb _ _ (c .before .before .before .before .before .if6 .left),
-    ne-eqb _ _ (c .before .before .before .before .if7 .left),
-    ne-eqb _ _ (c .before .before .before .if8 .left),
-    eq-eqb _ _ (c .before .before .if9 .taken),
-    c .before .wide87 .ensures,
-    c .done7 .ensures)
+returns-8 c = simp (
+  c .before .before .before .before .before .before .before .before .before .before .before .if1 .taken,
+  ne-eqb _ _ (c .before .before .before .before .before .before .before .before .before .before .if2 .left),
+  eq-eqb _ _ (c .before .before .before .before .before .before .before .before .if3 .left),
+  ne-eqb _ _ (c .before .before .before .before .before .before .before .if4 .left),
+  ne-eqb _ _ (c .before .before .before .before .before .before .if5 .left),
+  ne-eqb _ _ (c .before .before .before .before .before .if6 .left),
+  ne-eqb _ _ (c .before .before .before .before .if7 .left),
+  ne-eqb _ _ (c .before .before .before .if8 .left),
+  eq-eqb _ _ (c .before .before .if9 .taken),
+  c .before .wide87 .ensures,
+  c .done7 .ensures,
+)
 
-failed-requires-2 : tie.Need-failed-requires-2
-failed-requires-2 c κs = search needs
+bare-requires-2 : tie.Need-bare-requires-2
+bare-requires-2 c κs = search needs
 
 returns-9 : tie.Need-returns-9
 unfolding configDataRead registerRead registerWritten
-returns-9 c = simp
-    (c .before .before .before .before .before .before .before .before .before .before .if1 .taken,
-    ne-eqb _ _ (c .before .before .before .before .before .before .before .before .before .if2 .left),
-    eq-eqb _ _ (c .before .before .before .before .before .before .before .if3 .left),
-    ne-eqb _ _ (c .before .before .before .before .before .before .if4 .left),
-    ne-eqb _ _ (c .before .before .before .before .before .if5 .left),
-    ne-eqb _ _ (c .before .before .before .before .if6 .left),
-    ne-eqb _ _ (c .before .before .before .if7 .left),
-    ne-eqb _ _ (c .before .before .if8 .left),
-    ne-eqb _ _ (c .before .if9 .left),
-    c .failed2 .ensures)
+returns-9 c = simp (
+  c .before .before .before .before .before .before .before .before .before .before .if1 .taken,
+  ne-eqb _ _ (c .before .before .before .before .before .before .before .before .before .if2 .left),
+  eq-eqb _ _ (c .before .before .before .before .before .before .before .if3 .left),
+  ne-eqb _ _ (c .before .before .before .before .before .before .if4 .left),
+  ne-eqb _ _ (c .before .before .before .before .before .if5 .left),
+  ne-eqb _ _ (c .before .before .before .before .if6 .left),
+  ne-eqb _ _ (c .before .before .before .if7 .left),
+  ne-eqb _ _ (c .before .before .if8 .left),
+  ne-eqb _ _ (c .before .if9 .left),
+  c .bare2 .ensures,
+)
 
-failed-requires-3 : tie.Need-failed-requires-3
-failed-requires-3 c κs = search needs
+bare-requires-3 : tie.Need-bare-requires-3
+bare-requires-3 c κs = search needs
 
 returns-10 : tie.Need-returns-10
 unfolding configDataRead registerRead registerWritten
-returns-10 c = simp
-    (c .before .if1 .left,
-    c .failed3 .ensures)
+returns-10 c = simp (
+  c .before .if1 .left,
+  c .bare3 .ensures,
+)
 
 pub read-data-spec : {M : Type 1} → statement M
 read-data-spec =
@@ -192,7 +202,7 @@ read-data-spec =
     wide8-requires
     done-requires
     returns
-    failed-requires
+    bare-requires
     returns-2
     wide8-requires-2
     done-requires-2
@@ -216,7 +226,7 @@ read-data-spec =
     wide8-requires-7
     done-requires-7
     returns-8
-    failed-requires-2
+    bare-requires-2
     returns-9
-    failed-requires-3
+    bare-requires-3
     returns-10)

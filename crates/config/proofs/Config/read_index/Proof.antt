@@ -14,20 +14,22 @@ done-requires c κs = search needs
 
 returns : tie.Need-returns
 unfolding configIndexRead registerRead registerWritten
-returns c = simp
-    (c .before .before .if1 .taken,
-    c .before .wide8 .ensures,
-    c .done .ensures)
+returns c = simp (
+  c .before .before .if1 .taken,
+  c .before .wide8 .ensures,
+  c .done .ensures,
+)
 
-failed-requires : tie.Need-failed-requires
-failed-requires c κs = search needs
+bare-requires : tie.Need-bare-requires
+bare-requires c κs = search needs
 
 returns-2 : tie.Need-returns-2
 unfolding configIndexRead registerRead registerWritten
-returns-2 c = simp
-    (c .before .if1 .left,
-    c .failed .ensures)
+returns-2 c = simp (
+  c .before .if1 .left,
+  c .bare .ensures,
+)
 
 pub read-index-spec : {M : Type 1} → statement M
 read-index-spec =
-    tie.close (tie.spec wide8-requires done-requires returns failed-requires returns-2)
+    tie.close (tie.spec wide8-requires done-requires returns bare-requires returns-2)

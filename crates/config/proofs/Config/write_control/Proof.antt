@@ -12,18 +12,20 @@ wrote-requires c κs = search needs
 
 returns : tie.Need-returns
 unfolding controlWritten registerRead registerWritten
-returns c = simp
-    (eq-eqb _ _ (c .before .if1 .taken),
-    c .wrote .ensures)
+returns c = simp (
+  eq-eqb _ _ (c .before .if1 .taken),
+  c .wrote .ensures,
+)
 
 wrote-requires-2 : tie.Need-wrote-requires-2
 wrote-requires-2 c κs = search needs
 
 returns-2 : tie.Need-returns-2
 unfolding controlWritten registerRead registerWritten
-returns-2 c = simp
-    (ne-eqb _ _ (c .before .if1 .left),
-    c .wrote2 .ensures)
+returns-2 c = simp (
+  ne-eqb _ _ (c .before .if1 .left),
+  c .wrote2 .ensures,
+)
 
 pub write-control-spec : {M : Type 1} → statement M
 write-control-spec = tie.close (tie.spec wrote-requires returns wrote-requires-2 returns-2)

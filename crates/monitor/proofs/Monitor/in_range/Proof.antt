@@ -52,9 +52,10 @@ loop-again : tie.Need-loop-again Inv-loop μ-loop
 loop-again c =
     let k = c .before .before .before .before .loop .k in
     let registers = c .before .before .before .before .before .before .args .self .registers in
-    let t = rw (c .before .before .mask .ensures) at (c .before .within8 .ensures) in
-    (omega arith,
-    all-more k (slotInRange registers) (c .before .before .before .before .loop .inv .1) (sym t ∙ not-false _ (c .if1 .left)))
+    let t = rw (c .before .before .mask .ensures) at (c .before .within8 .ensures) in (
+      omega arith,
+      all-more k (slotInRange registers) (c .before .before .before .before .loop .inv .1) (sym t ∙ not-false _ (c .if1 .left)),
+    )
 
 returns-2 : tie.Need-returns-2 Inv-loop μ-loop
 unfolding monitorInRange

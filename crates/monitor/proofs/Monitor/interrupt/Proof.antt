@@ -24,41 +24,45 @@ both-requires c κs = search needs
 
 returns : tie.Need-returns
 unfolding interrupt
-returns c = simp
-    (← (c .before .before .before .before .before .before .before .has .ensures),
-    c .before .before .before .before .before .before .if1 .taken,
-    ← (c .before .before .before .has2 .ensures),
-    c .before .before .if2 .taken,
-    ← (c .before .both .ensures),
-    c .if3 .taken)
+returns c = simp (
+  ← (c .before .before .before .before .before .before .before .has .ensures),
+  c .before .before .before .before .before .before .if1 .taken,
+  ← (c .before .before .before .has2 .ensures),
+  c .before .before .if2 .taken,
+  ← (c .before .both .ensures),
+  c .if3 .taken,
+)
 
 both-requires-2 : tie.Need-both-requires-2
 both-requires-2 c κs = search needs
 
 returns-2 : tie.Need-returns-2
 unfolding interrupt
-returns-2 c = simp
-    (← (c .before .before .before .before .before .before .before .before .has .ensures),
-    c .before .before .before .before .before .before .before .if1 .taken,
-    ← (c .before .before .before .before .has2 .ensures),
-    c .before .before .before .if2 .taken,
-    ← (c .before .before .both .ensures),
-    c .before .if3 .left,
-    ← (c .both2 .ensures))
+returns-2 c = simp (
+  ← (c .before .before .before .before .before .before .before .before .has .ensures),
+  c .before .before .before .before .before .before .before .if1 .taken,
+  ← (c .before .before .before .before .has2 .ensures),
+  c .before .before .before .if2 .taken,
+  ← (c .before .before .both .ensures),
+  c .before .if3 .left,
+  ← (c .both2 .ensures),
+)
 
 returns-3 : tie.Need-returns-3
 unfolding interrupt
-returns-3 c = simp
-    (← (c .before .before .before .before .before .has .ensures),
-    c .before .before .before .before .if1 .taken,
-    ← (c .before .has2 .ensures),
-    c .if2 .left)
+returns-3 c = simp (
+  ← (c .before .before .before .before .before .has .ensures),
+  c .before .before .before .before .if1 .taken,
+  ← (c .before .has2 .ensures),
+  c .if2 .left,
+)
 
 returns-4 : tie.Need-returns-4
 unfolding interrupt
-returns-4 c = simp
-    (← (c .before .has .ensures),
-    c .if1 .left)
+returns-4 c = simp (
+  ← (c .before .has .ensures),
+  c .if1 .left,
+)
 
 pub interrupt-spec : {M : Type 1} → statement M
 interrupt-spec =

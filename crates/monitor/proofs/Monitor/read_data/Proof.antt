@@ -9,15 +9,16 @@ use Rattle.monitor.proofs.Monitor.read_data.Tie as tie
 kind-requires : tie.Need-kind-requires
 kind-requires c κs = search needs
 
-failed-requires : tie.Need-failed-requires
-failed-requires c κs = search needs
+bare-requires : tie.Need-bare-requires
+bare-requires c κs = search needs
 
 returns : tie.Need-returns
 unfolding monitorDataRead
-returns c = simp
-    (← (c .before .before .kind .ensures),
-    eq-eqb _ _ (c .before .if1 .taken),
-    c .failed .ensures)
+returns c = simp (
+  ← (c .before .before .kind .ensures),
+  eq-eqb _ _ (c .before .if1 .taken),
+  c .bare .ensures,
+)
 
 reset-requires : tie.Need-reset-requires
 reset-requires c κs = search needs
@@ -30,13 +31,14 @@ done-requires c κs = search needs
 
 returns-2 : tie.Need-returns-2
 unfolding monitorDataRead
-returns-2 c = simp
-    (← (c .before .before .before .before .before .kind .ensures),
-    ne-eqb _ _ (c .before .before .before .before .if1 .left),
-    eq-eqb _ _ (c .before .before .before .if2 .taken),
-    c .before .before .reset .ensures,
-    c .before .wide8 .ensures,
-    c .done .ensures)
+returns-2 c = simp (
+  ← (c .before .before .before .before .before .kind .ensures),
+  ne-eqb _ _ (c .before .before .before .before .if1 .left),
+  eq-eqb _ _ (c .before .before .before .if2 .taken),
+  c .before .before .reset .ensures,
+  c .before .wide8 .ensures,
+  c .done .ensures,
+)
 
 slot-requires : tie.Need-slot-requires
 slot-requires c κs = search needs
@@ -52,20 +54,21 @@ done-requires-2 c κs = search needs
 
 returns-3 : tie.Need-returns-3
 unfolding monitorDataRead
-returns-3 c = simp
-    (← (c .before .before .before .before .before .before .kind .ensures),
-    ne-eqb _ _ (c .before .before .before .before .before .if1 .left),
-    ne-eqb _ _ (c .before .before .before .before .if2 .left),
-    ← (c .before .before .before .slot .ensures),
-    c .before .wide82 .ensures,
-    c .done2 .ensures)
+returns-3 c = simp (
+  ← (c .before .before .before .before .before .before .kind .ensures),
+  ne-eqb _ _ (c .before .before .before .before .before .if1 .left),
+  ne-eqb _ _ (c .before .before .before .before .if2 .left),
+  ← (c .before .before .before .slot .ensures),
+  c .before .wide82 .ensures,
+  c .done2 .ensures,
+)
 
 pub read-data-spec : {M : Type 1} → statement M
 read-data-spec =
     tie.close
     (tie.spec
     kind-requires
-    failed-requires
+    bare-requires
     returns
     reset-requires
     wide8-requires

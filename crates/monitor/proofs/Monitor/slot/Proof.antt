@@ -54,19 +54,20 @@ returns-12 c = simp (c .match .keys12)
 
 returns-13 : tie.Need-returns-13
 unfolding slotOf
-returns-13 c = simp
-    (ne-eqb _ _ (c .match .rest .0 .0 .0 .0 .0 .0 .0 .0 .0 .0 .0 .1),
-    ne-eqb _ _ (c .match .rest .0 .0 .0 .0 .0 .0 .0 .0 .0 .0 .1),
-    ne-eqb _ _ (c .match .rest .0 .0 .0 .0 .0 .0 .0 .0 .0 .1),
-    ne-eqb _ _ (c .match .rest .0 .0 .0 .0 .0 .0 .0 .0 .1),
-    ne-eqb _ _ (c .match .rest .0 .0 .0 .0 .0 .0 .0 .1),
-    ne-eqb _ _ (c .match .rest .0 .0 .0 .0 .0 .0 .1),
-    ne-eqb _ _ (c .match .rest .0 .0 .0 .0 .0 .1),
-    ne-eqb _ _ (c .match .rest .0 .0 .0 .0 .1),
-    ne-eqb _ _ (c .match .rest .0 .0 .0 .1),
-    ne-eqb _ _ (c .match .rest .0 .0 .1),
-    ne-eqb _ _ (c .match .rest .0 .1),
-    ne-eqb _ _ (c .match .rest .1))
+returns-13 c = simp (
+  ne-eqb _ _ (c .match .rest .0 .0 .0 .0 .0 .0 .0 .0 .0 .0 .0 .1),
+  ne-eqb _ _ (c .match .rest .0 .0 .0 .0 .0 .0 .0 .0 .0 .0 .1),
+  ne-eqb _ _ (c .match .rest .0 .0 .0 .0 .0 .0 .0 .0 .0 .1),
+  ne-eqb _ _ (c .match .rest .0 .0 .0 .0 .0 .0 .0 .0 .1),
+  ne-eqb _ _ (c .match .rest .0 .0 .0 .0 .0 .0 .0 .1),
+  ne-eqb _ _ (c .match .rest .0 .0 .0 .0 .0 .0 .1),
+  ne-eqb _ _ (c .match .rest .0 .0 .0 .0 .0 .1),
+  ne-eqb _ _ (c .match .rest .0 .0 .0 .0 .1),
+  ne-eqb _ _ (c .match .rest .0 .0 .0 .1),
+  ne-eqb _ _ (c .match .rest .0 .0 .1),
+  ne-eqb _ _ (c .match .rest .0 .1),
+  ne-eqb _ _ (c .match .rest .1),
+)
 
 pub slot-spec : {M : Type 1} → statement M
 slot-spec =

@@ -18,19 +18,21 @@ done-requires c κs = search needs
 
 returns : tie.Need-returns
 unfolding keyRead registerRead registerWritten
-returns c = simp
-    (eq-eqb _ _ (c .before .before .before .if1 .taken),
-    c .before .wide8 .ensures,
-    c .done .ensures)
+returns c = simp (
+  eq-eqb _ _ (c .before .before .before .if1 .taken),
+  c .before .wide8 .ensures,
+  c .done .ensures,
+)
 
-failed-requires : tie.Need-failed-requires
-failed-requires c κs = search needs
+bare-requires : tie.Need-bare-requires
+bare-requires c κs = search needs
 
 returns-2 : tie.Need-returns-2
 unfolding keyRead registerRead registerWritten
-returns-2 c = simp
-    (ne-eqb _ _ (c .before .if1 .left),
-    c .failed .ensures)
+returns-2 c = simp (
+  ne-eqb _ _ (c .before .if1 .left),
+  c .bare .ensures,
+)
 
 pub read-spec : {M : Type 1} → statement M
 read-spec =
@@ -40,5 +42,5 @@ read-spec =
     wide8-requires
     done-requires
     returns
-    failed-requires
+    bare-requires
     returns-2)

@@ -1,0 +1,85 @@
+-- `device::Device::key_reached` meets its contract. Assumes nothing.
+use native.Mathlib.Omega.{arith}
+use Rattle.device.proofs.Claims.{key-claimed}
+use Rattle.device.specs.Reach.{keyReached}
+use borrow.Author.Needs.{needs}
+use Rattle.device.proofs.Device.key_reached.Statement.{statement}
+use Rattle.device.proofs.Device.key_reached.Tie as tie
+
+key-base-requires : tie.Need-key-base-requires
+key-base-requires c κs = search needs
+
+sub-at : tie.Need-sub-at
+sub-at c =
+    omega (
+      arith,
+      c .before .key-base .ensures,
+      key-claimed (c .before .before .before .before .args .self) (c .before .before .before .before .args .access .port) (c .before .before .before .before .pre),
+    )
+
+cast-at : tie.Need-cast-at
+cast-at c = search needs
+
+low-byte-requires : tie.Need-low-byte-requires
+low-byte-requires c κs = search needs
+
+write-requires : tie.Need-write-requires
+write-requires c κs =
+    omega (
+      arith,
+      c .before .before .before .key-base .ensures,
+      key-claimed (c .before .before .before .before .before .before .args .self) (c .before .before .before .before .before .before .args .access .port) (c .before .before .before .before .before .before .pre),
+    )
+
+bare-requires : tie.Need-bare-requires
+bare-requires c κs = search needs
+
+reach-requires : tie.Need-reach-requires
+reach-requires c κs = search needs
+
+returns : tie.Need-returns
+unfolding keyReached
+returns c = simp (
+  c .before .before .before .before .before .before .before .key-base .ensures,
+  c .before .before .before .before .before .if1 .taken,
+  c .before .before .before .before .low-byte .ensures,
+  c .before .before .before .write .ensures,
+  c .before .bare .ensures,
+  c .reach .ensures,
+)
+
+read-requires : tie.Need-read-requires
+read-requires c κs =
+    omega (
+      arith,
+      c .before .before .key-base .ensures,
+      key-claimed (c .before .before .before .before .before .args .self) (c .before .before .before .before .before .args .access .port) (c .before .before .before .before .before .pre),
+    )
+
+reach-requires-2 : tie.Need-reach-requires-2
+reach-requires-2 c κs = search needs
+
+returns-2 : tie.Need-returns-2
+unfolding keyReached
+returns-2 c = simp (
+  c .before .before .before .before .key-base .ensures,
+  c .before .before .if1 .left,
+  c .before .read .ensures,
+  c .reach2 .ensures,
+)
+
+pub key-reached-spec : {M : Type 1} → statement M
+key-reached-spec =
+    tie.close
+    (tie.spec
+    key-base-requires
+    sub-at
+    cast-at
+    low-byte-requires
+    write-requires
+    bare-requires
+    reach-requires
+    returns
+    read-requires
+    reach-requires-2
+    returns-2)

@@ -1,0 +1,84 @@
+-- `device::Device::owner` meets its contract. Assumes nothing.
+use Rattle.device.specs.Owner.{owner}
+use borrow.Author.Needs.{needs}
+use Rattle.device.proofs.Device.owner.Statement.{statement}
+use Rattle.device.proofs.Device.owner.Tie as tie
+
+is-config-requires : tie.Need-is-config-requires
+is-config-requires c κs = search needs
+
+returns : tie.Need-returns
+unfolding owner
+returns c = simp (
+  ← (c .before .is-config .ensures),
+  c .if1 .taken,
+)
+
+is-acpi-requires : tie.Need-is-acpi-requires
+is-acpi-requires c κs = search needs
+
+returns-2 : tie.Need-returns-2
+unfolding owner
+returns-2 c = simp (
+  ← (c .before .before .before .is-config .ensures),
+  c .before .before .if1 .left,
+  ← (c .before .is-acpi .ensures),
+  c .if2 .taken,
+)
+
+monitor-claims-requires : tie.Need-monitor-claims-requires
+monitor-claims-requires c κs = search needs
+
+returns-3 : tie.Need-returns-3
+unfolding owner
+returns-3 c = simp (
+  ← (c .before .before .before .before .before .is-config .ensures),
+  c .before .before .before .before .if1 .left,
+  ← (c .before .before .before .is-acpi .ensures),
+  c .before .before .if2 .left,
+  ← (c .before .monitor-claims .ensures),
+  c .if3 .taken,
+)
+
+key-claims-requires : tie.Need-key-claims-requires
+key-claims-requires c κs = search needs
+
+returns-4 : tie.Need-returns-4
+unfolding owner
+returns-4 c = simp (
+  ← (c .before .before .before .before .before .before .before .is-config .ensures),
+  c .before .before .before .before .before .before .if1 .left,
+  ← (c .before .before .before .before .before .is-acpi .ensures),
+  c .before .before .before .before .if2 .left,
+  ← (c .before .before .before .monitor-claims .ensures),
+  c .before .before .if3 .left,
+  ← (c .before .key-claims .ensures),
+  c .if4 .taken,
+)
+
+returns-5 : tie.Need-returns-5
+unfolding owner
+returns-5 c = simp (
+  ← (c .before .before .before .before .before .before .before .is-config .ensures),
+  c .before .before .before .before .before .before .if1 .left,
+  ← (c .before .before .before .before .before .is-acpi .ensures),
+  c .before .before .before .before .if2 .left,
+  ← (c .before .before .before .monitor-claims .ensures),
+  c .before .before .if3 .left,
+  ← (c .before .key-claims .ensures),
+  c .if4 .left,
+)
+
+pub owner-spec : {M : Type 1} → statement M
+owner-spec =
+    tie.close
+    (tie.spec
+    is-config-requires
+    returns
+    is-acpi-requires
+    returns-2
+    monitor-claims-requires
+    returns-3
+    key-claims-requires
+    returns-4
+    returns-5)

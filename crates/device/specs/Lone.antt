@@ -1,0 +1,49 @@
+-- Document 01, "Scripts and images": "A lone access: 11, then 4 (width, port, or a write value too wide); a lone event:
+-- 11, 12; place 0 in each. A refusal's other numbers are 0".
+use Prim.Native.Nat.{ℕ}
+use mathlib.Core.Bool.{Bool, true, false, cond, _&&_}
+use lib.Dec.{leb}
+use Rattle.access.specs.declared.Access.{Access}
+use Rattle.width.specs.Width.{fitsWidth, isWidth}
+use Rattle.device.specs.Device.{deviceInRange, outputsOf}
+use Rattle.device.specs.Event.{happened, isEvent}
+use Rattle.device.specs.Reach.{accessed}
+use Rattle.device.specs.declared.Device.{Device}
+use Rattle.device.specs.declared.Outputs.{Outputs}
+use Rattle.device.specs.declared.Reached.{Reached}
+use Rattle.device.specs.declared.lone.Accessed.{Accessed}
+use Rattle.device.specs.declared.lone.Happened.{Happened}
+
+-- an access that refusal 4 lets through
+abbrev pub isAccess : Access → Bool
+isAccess x = isWidth (x .width) && (leb (x .port) 0xFFFF && cond (x .write) (fitsWidth (x .width) (x .value)) true)
+
+abbrev pub noOutputs : Outputs
+noOutputs = record { sci = false; smi = false; monitor = false }
+
+abbrev pub accessRefused : ℕ → Device → Accessed
+accessRefused n d = record { refusal = n; place = 0; status = 0; value = 0; outputs = noOutputs; device = d }
+
+abbrev pub accessDone : Reached → Accessed
+accessDone r = record {
+  refusal = 0;
+  place = 0;
+  status = r .answer .status;
+  value = r .answer .value;
+  outputs = outputsOf (r .device);
+  device = r .device;
+}
+
+unfoldable pub loneAccess : Device → Access → Accessed
+loneAccess d x =
+    cond (deviceInRange d) (cond (isAccess x) (accessDone (accessed d x)) (accessRefused 4 d)) (accessRefused 11 d)
+
+abbrev pub eventRefused : ℕ → Device → Happened
+eventRefused n d = record { refusal = n; place = 0; outputs = noOutputs; device = d }
+
+abbrev pub eventDone : Device → Happened
+eventDone d = record { refusal = 0; place = 0; outputs = outputsOf d; device = d }
+
+unfoldable pub loneEvent : Device → ℕ → Happened
+loneEvent d n =
+    cond (deviceInRange d) (cond (isEvent n) (eventDone (happened d n)) (eventRefused 12 d)) (eventRefused 11 d)

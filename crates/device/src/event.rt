@@ -1,0 +1,116 @@
+// Outside events: document 01, "Outside events". A 32-bit number, its kind in the top byte and its operand below.
+use config::Config;
+use monitor::Monitor;
+ghost use mathlib.Core.Path.{_≡_};
+ghost use Rattle.device.specs.Event.{isOperand, isEvent, resetBy, statusBit, moved, happened};
+use crate::Device;
+
+pub const TICKS: u32 = 1;
+
+pub const PIN: u32 = 2;
+
+pub const RTC_ALARM: u32 = 3;
+
+pub const BUS_MASTER: u32 = 4;
+
+pub const SENSOR: u32 = 5;
+
+pub const RESET: u32 = 6;
+
+pub const BUTTON: u32 = 7;
+// A kind's place in an event's number.
+pub const KIND: u32 = 0x0100_0000;
+
+fn is_operand(kind: u32, operand: u32) -> bool
+    ensures { λ r. ⌜ r ≡ isOperand kind operand ⌝ }
+{
+    match kind {
+        1 => operand <= 65535,
+        2 => operand <= 15,
+        3 => operand == 0,
+        4 => operand == 0,
+        5 => operand <= 3,
+        6 => operand <= 3,
+        7 => operand == 0,
+        _ => false,
+    }
+}
+
+pub fn is_event(number: u32) -> bool
+    ensures { λ r. ⌜ r ≡ isEvent number ⌝ }
+{
+    is_operand(number / KIND, number % KIND)
+}
+
+fn status_bit(kind: u32) -> u16
+    ensures { λ r. ⌜ r ≡ statusBit kind ⌝ }
+{
+    if kind == RTC_ALARM {
+        return acpi::Acpi::RTC_STS;
+    }
+    if kind == BUS_MASTER {
+        return acpi::Acpi::BM_STS;
+    }
+    acpi::Acpi::BUTTON_STS
+}
+
+impl Device {
+    fn reset_by(mut self, operand: u32) -> Self
+        ensures { λ r. ⌜ r ≡ resetBy self operand ⌝ }
+    {
+        let config = Config::fresh();
+        self.config = config;
+        if operand == 0 {
+            return self;
+        }
+        let monitor = Monitor::fresh();
+        self.monitor = monitor;
+        if operand == 1 {
+            return self;
+        }
+        if operand == 2 {
+            let acpi = self.acpi;
+            let next = acpi.reset();
+            self.acpi = next;
+            return self;
+        }
+        Device::fresh()
+    }
+
+    // What an event does, before the settling.
+    fn moved(mut self, kind: u32, operand: u32) -> Self
+        ensures { λ r. ⌜ r ≡ moved self kind operand ⌝ }
+    {
+        let acpi = self.acpi;
+        if kind == TICKS {
+            let next = acpi.tick(operand);
+            self.acpi = next;
+            return self;
+        }
+        if kind == PIN {
+            let next = acpi.pin((operand % 8) as usize, operand & 0x08 != 0);
+            self.acpi = next;
+            return self;
+        }
+        if kind == SENSOR {
+            let monitor = self.monitor;
+            let next = monitor.sense((operand % 4) as u8);
+            self.monitor = next;
+            return self;
+        }
+        if kind == RESET {
+            return self.reset_by(operand);
+        }
+        let next = acpi.raise(status_bit(kind));
+        self.acpi = next;
+        self
+    }
+
+    // An event: the device after it and its settling.
+    pub fn happened(self, number: u32) -> Self
+        ensures { λ r. ⌜ r ≡ happened self number ⌝ }
+    {
+        let next = self.moved(number / KIND, number % KIND);
+        next.settled()
+    }
+}

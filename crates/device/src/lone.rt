@@ -1,0 +1,135 @@
+// The lone access and the lone event: any device, any numbers; a refusal hands the device back unchanged.
+use access::Access;
+ghost use mathlib.Core.Path.{_≡_};
+ghost use Rattle.device.specs.Lone.{isAccess, accessRefused, accessDone, loneAccess, eventRefused, eventDone, loneEvent, noOutputs};
+use crate::Device;
+use crate::Outputs;
+use crate::Reached;
+
+// The answer to a lone access. `refusal` is 0 where it is done, and else document 01's number.
+pub struct Accessed {
+    pub refusal: u32,
+    pub place: u32,
+    pub status: u32,
+    pub value: u32,
+    pub outputs: Outputs,
+    pub device: Device,
+}
+
+pub struct Happened {
+    pub refusal: u32,
+    pub place: u32,
+    pub outputs: Outputs,
+    pub device: Device,
+}
+
+pub const BAD_ACCESS: u32 = 4;
+
+pub const BAD_STATE: u32 = 11;
+
+pub const BAD_EVENT: u32 = 12;
+
+fn is_access(access: Access) -> bool
+    ensures { λ r. ⌜ r ≡ isAccess access ⌝ }
+{
+    if !width::is_width(access.width) {
+        return false;
+    }
+    if 0xFFFF < access.port {
+        return false;
+    }
+    if access.write {
+        return width::fits(access.width, access.value);
+    }
+    true
+}
+
+fn no_outputs() -> Outputs
+    ensures { λ r. ⌜ r ≡ noOutputs ⌝ }
+{
+    Outputs {
+        sci: false,
+        smi: false,
+        monitor: false,
+    }
+}
+
+fn access_refused(number: u32, device: Device) -> Accessed
+    ensures { λ r. ⌜ r ≡ accessRefused number device ⌝ }
+{
+    let outputs = no_outputs();
+    Accessed {
+        refusal: number,
+        place: 0,
+        status: 0,
+        value: 0,
+        outputs,
+        device,
+    }
+}
+
+fn access_done(reached: Reached) -> Accessed
+    ensures { λ r. ⌜ r ≡ accessDone reached ⌝ }
+{
+    let answer = reached.answer;
+    let device = reached.device;
+    let outputs = device.outputs();
+    Accessed {
+        refusal: 0,
+        place: 0,
+        status: answer.status,
+        value: answer.value,
+        outputs,
+        device,
+    }
+}
+
+fn event_refused(number: u32, device: Device) -> Happened
+    ensures { λ r. ⌜ r ≡ eventRefused number device ⌝ }
+{
+    let outputs = no_outputs();
+    Happened {
+        refusal: number,
+        place: 0,
+        outputs,
+        device,
+    }
+}
+
+fn event_done(device: Device) -> Happened
+    ensures { λ r. ⌜ r ≡ eventDone device ⌝ }
+{
+    let outputs = device.outputs();
+    Happened {
+        refusal: 0,
+        place: 0,
+        outputs,
+        device,
+    }
+}
+
+impl Device {
+    pub fn access(self, access: Access) -> Accessed
+        ensures { λ r. ⌜ r ≡ loneAccess self access ⌝ }
+    {
+        if !self.in_range() {
+            return access_refused(BAD_STATE, self);
+        }
+        if !is_access(access) {
+            return access_refused(BAD_ACCESS, self);
+        }
+        access_done(self.accessed(access))
+    }
+
+    pub fn event(self, number: u32) -> Happened
+        ensures { λ r. ⌜ r ≡ loneEvent self number ⌝ }
+    {
+        if !self.in_range() {
+            return event_refused(BAD_STATE, self);
+        }
+        if !crate::event::is_event(number) {
+            return event_refused(BAD_EVENT, self);
+        }
+        event_done(self.happened(number))
+    }
+}
