@@ -1,0 +1,90 @@
+// The lines that `replay` prints, each written whole.
+use device::Device;
+use device::Outputs;
+use libc::STDOUT_FILENO;
+
+fn write(line: &[u8], end: usize) {
+    if end <= line.len() {
+        io::write_all(STDOUT_FILENO, &line[..end]);
+    }
+}
+
+fn print(line: &mut [u8], at: usize) {
+    let end = digits::put(line, at, b'\n');
+    write(line, end);
+}
+
+fn put_flag(line: &mut [u8], at: usize, on: bool) -> usize {
+    if on {
+        return digits::put(line, at, b'1');
+    }
+    digits::put(line, at, b'0')
+}
+
+fn put_outputs(line: &mut [u8], at: usize, outputs: Outputs) -> usize {
+    let a = put_flag(line, at, outputs.sci);
+    let b = put_flag(line, a, outputs.smi);
+    put_flag(line, b, outputs.monitor)
+}
+
+pub fn unread() {
+    io::write_all(STDOUT_FILENO, b"UNREAD\n");
+}
+
+pub fn fresh() {
+    io::write_all(STDOUT_FILENO, b"FRESH\n");
+}
+
+pub fn loaded() {
+    io::write_all(STDOUT_FILENO, b"LOADED\n");
+}
+
+pub fn refused(number: u32, place: u32) {
+    let mut line = [0u8; 64];
+    let a = digits::put_text(&mut line, 0, b"REFUSED ");
+    let b = digits::put_decimal(&mut line, a, number);
+    let c = digits::put(&mut line, b, b' ');
+    let d = digits::put_decimal(&mut line, c, place);
+    print(&mut line, d);
+}
+
+pub fn access_done(status: u32, value: u32, outputs: Outputs) {
+    let mut line = [0u8; 64];
+    let a = digits::put_text(&mut line, 0, b"DONE ");
+    let b = digits::put_decimal(&mut line, a, status);
+    let c = digits::put(&mut line, b, b' ');
+    let d = digits::put_hex(&mut line, c, value);
+    let e = digits::put(&mut line, d, b' ');
+    let f = put_outputs(&mut line, e, outputs);
+    print(&mut line, f);
+}
+
+pub fn event_done(outputs: Outputs) {
+    let mut line = [0u8; 64];
+    let a = digits::put_text(&mut line, 0, b"DONE ");
+    let b = put_outputs(&mut line, a, outputs);
+    print(&mut line, b);
+}
+
+pub fn outputs(outputs: Outputs) {
+    let mut line = [0u8; 64];
+    let a = digits::put_text(&mut line, 0, b"OUTPUTS ");
+    let b = put_outputs(&mut line, a, outputs);
+    print(&mut line, b);
+}
+
+fn put_bytes(line: &mut [u8], at: usize, bytes: &[u8]) -> usize {
+    let mut next = at;
+    for k in 0..bytes.len() {
+        next = digits::put_byte(line, next, bytes[k]);
+    }
+    next
+}
+
+pub fn state(device: Device) {
+    let mut line = [0u8; 256];
+    let bytes = state::bytes_of(device);
+    let a = digits::put_text(&mut line, 0, b"STATE ");
+    let b = put_bytes(&mut line, a, &bytes);
+    print(&mut line, b);
+}

@@ -1,0 +1,174 @@
+// One command: read, done on the device, answered. A line that is no command leaves the device as it is.
+use crate::answer;
+use access::Access;
+use device::Device;
+
+// The number behind one space at a place.
+fn next_number(line: &[u8], at: usize) -> digits::Hex {
+    if digits::is_space(line, at) {
+        return digits::number(line, digits::after(at, 1));
+    }
+    digits::Hex {
+        ok: false,
+        value: 0,
+        next: at,
+    }
+}
+
+fn access(device: Device, access: Access) -> Device {
+    let r = device.access(access);
+    let next = r.device;
+    let outputs = r.outputs;
+    if r.refusal == 0 {
+        answer::access_done(r.status, r.value, outputs);
+    } else {
+        answer::refused(r.refusal, r.place);
+    }
+    next
+}
+
+fn unread(device: Device) -> Device {
+    answer::unread();
+    device
+}
+
+// R width port
+fn read(device: Device, line: &[u8]) -> Device {
+    let width = next_number(line, 1);
+    let port = next_number(line, width.next);
+    if width.ok && port.ok && digits::ends(line, port.next) {
+        return access(
+            device,
+            Access {
+                write: false,
+                width: width.value,
+                port: port.value,
+                value: 0,
+            },
+        );
+    }
+    unread(device)
+}
+
+// W width port value
+fn write(device: Device, line: &[u8]) -> Device {
+    let width = next_number(line, 1);
+    let port = next_number(line, width.next);
+    let value = next_number(line, port.next);
+    if width.ok && port.ok && value.ok && digits::ends(line, value.next) {
+        return access(
+            device,
+            Access {
+                write: true,
+                width: width.value,
+                port: port.value,
+                value: value.value,
+            },
+        );
+    }
+    unread(device)
+}
+
+// E number
+fn event(device: Device, line: &[u8]) -> Device {
+    let number = next_number(line, 1);
+    if number.ok && digits::ends(line, number.next) {
+        let r = device.event(number.value);
+        let next = r.device;
+        let outputs = r.outputs;
+        if r.refusal == 0 {
+            answer::event_done(outputs);
+        } else {
+            answer::refused(r.refusal, r.place);
+        }
+        return next;
+    }
+    unread(device)
+}
+
+// The bytes of a saved state; false where the line has no such bytes.
+fn state_bytes(line: &[u8], bytes: &mut [u8; 106]) -> bool {
+    for k in 0..106 {
+        let b = digits::byte(line, 2 + 2 * k);
+        if 256 <= b {
+            return false;
+        }
+        bytes[k] = (b % 256) as u8;
+    }
+    true
+}
+
+// L bytes
+fn load(device: Device, line: &[u8]) -> Device {
+    let mut bytes = [0u8; 106];
+    if !digits::is_space(line, 1) {
+        return unread(device);
+    }
+    if line.len() != 214 {
+        return unread(device);
+    }
+    if !state_bytes(line, &mut bytes) {
+        return unread(device);
+    }
+    let loaded = state::device_of(&bytes);
+    let next = loaded.device;
+    if loaded.valid {
+        answer::loaded();
+        return next;
+    }
+    answer::refused(device::lone::BAD_STATE, 0);
+    device
+}
+
+fn fresh() -> Device {
+    answer::fresh();
+    Device::fresh()
+}
+
+fn outputs(device: Device) -> Device {
+    let outputs = device.outputs();
+    answer::outputs(outputs);
+    device
+}
+
+fn show(device: Device) -> Device {
+    answer::state(device);
+    device
+}
+
+fn letter(line: &[u8]) -> u8 {
+    if 0 < line.len() {
+        return line[0];
+    }
+    0
+}
+
+pub fn run(device: Device, line: &[u8]) -> Device {
+    let kind = letter(line);
+    let alone = digits::ends(line, 1);
+    if kind == b'R' {
+        return read(device, line);
+    }
+    if kind == b'W' {
+        return write(device, line);
+    }
+    if kind == b'E' {
+        return event(device, line);
+    }
+    if kind == b'L' {
+        return load(device, line);
+    }
+    if !alone {
+        return unread(device);
+    }
+    if kind == b'S' {
+        return show(device);
+    }
+    if kind == b'O' {
+        return outputs(device);
+    }
+    if kind == b'F' {
+        return fresh();
+    }
+    unread(device)
+}

@@ -1,0 +1,316 @@
+// A saved device: the state as 106 bytes, in the order of docs/CASES.md, and back.
+use acpi::Acpi;
+use config::Config;
+use config::key::Key;
+use device::Device;
+use monitor::Monitor;
+
+pub const SIZE: usize = 106;
+
+// A device read from bytes; `valid` is false where no device can hold such a state.
+pub struct Loaded {
+    pub valid: bool,
+    pub device: Device,
+}
+
+fn bit(b: bool) -> u8 {
+    if b { 1 } else { 0 }
+}
+
+fn low(x: u16) -> u8 {
+    (x % 256) as u8
+}
+
+fn high(x: u16) -> u8 {
+    (x / 256) as u8
+}
+
+fn byte(x: u32) -> u8 {
+    (x % 256) as u8
+}
+
+fn word(low: u8, high: u8) -> u16 {
+    (low as u16) + (high as u16) * 256
+}
+
+fn long(a: u8, b: u8, c: u8, d: u8) -> u32 {
+    (a as u32) + (b as u32) * 0x100 + (c as u32) * 0x1_0000 + (d as u32) * 0x100_0000
+}
+
+pub fn bytes_of(device: Device) -> [u8; 106] {
+    let config = device.config;
+    let block = device.key;
+    let key = block.bytes;
+    let monitor = device.monitor;
+    let registers = monitor.registers;
+    let acpi = device.acpi;
+    let maps = acpi.maps;
+    let levels = acpi.levels;
+    let timer = acpi.timer;
+    [
+        bit(config.unlocked),
+        config.index,
+        config.number,
+        config.activate,
+        high(config.runtime),
+        low(config.runtime),
+        high(config.key),
+        low(config.key),
+        config.control,
+        key[0],
+        key[1],
+        key[2],
+        key[3],
+        key[4],
+        key[5],
+        key[6],
+        key[7],
+        key[8],
+        key[9],
+        key[10],
+        key[11],
+        key[12],
+        key[13],
+        key[14],
+        key[15],
+        key[16],
+        key[17],
+        key[18],
+        key[19],
+        key[20],
+        key[21],
+        key[22],
+        key[23],
+        key[24],
+        key[25],
+        key[26],
+        key[27],
+        key[28],
+        key[29],
+        key[30],
+        key[31],
+        monitor.index,
+        registers[0],
+        0x44,
+        0x40,
+        registers[1],
+        registers[2],
+        registers[3],
+        registers[4],
+        registers[5],
+        registers[6],
+        0x00,
+        0x00,
+        0x00,
+        0x00,
+        0x00,
+        registers[7],
+        registers[8],
+        registers[9],
+        registers[10],
+        registers[11],
+        acpi.pcnt,
+        acpi.cpu,
+        bit(acpi.scien),
+        low(acpi.pm1sts),
+        high(acpi.pm1sts),
+        low(acpi.pm1en),
+        high(acpi.pm1en),
+        low(acpi.pm1cnt),
+        high(acpi.pm1cnt),
+        bit(acpi.sleeping),
+        low(acpi.setupidx),
+        high(acpi.setupidx),
+        low(acpi.gpe0sts),
+        high(acpi.gpe0sts),
+        low(acpi.gpe0en),
+        high(acpi.gpe0en),
+        low(maps[0]),
+        high(maps[0]),
+        low(maps[1]),
+        high(maps[1]),
+        low(maps[2]),
+        high(maps[2]),
+        low(maps[3]),
+        high(maps[3]),
+        low(maps[4]),
+        high(maps[4]),
+        low(maps[5]),
+        high(maps[5]),
+        low(maps[6]),
+        high(maps[6]),
+        low(maps[7]),
+        high(maps[7]),
+        acpi.irq,
+        byte(timer),
+        byte(timer / 0x100),
+        byte(timer / 0x1_0000),
+        byte(timer / 0x100_0000),
+        bit(levels[0]),
+        bit(levels[1]),
+        bit(levels[2]),
+        bit(levels[3]),
+        bit(levels[4]),
+        bit(levels[5]),
+        bit(levels[6]),
+        bit(levels[7]),
+    ]
+}
+
+// The levels of the pins are 0 or 1.
+fn are_levels(bytes: &[u8; 106]) -> bool {
+    for k in 0..8 {
+        if 1 < bytes[98 + k] {
+            return false;
+        }
+    }
+    true
+}
+
+// The read-only monitor registers 84h to 88h are at their reset.
+fn are_zero(bytes: &[u8; 106]) -> bool {
+    for k in 0..5 {
+        if bytes[51 + k] != 0 {
+            return false;
+        }
+    }
+    true
+}
+
+// Can a device hold this state?
+fn is_held(bytes: &[u8; 106]) -> bool {
+    if 1 < bytes[0] || 1 < bytes[63] || 1 < bytes[70] {
+        return false;
+    }
+    if bytes[43] != 0x44 || bytes[44] != 0x40 {
+        return false;
+    }
+    are_levels(bytes) && are_zero(bytes)
+}
+
+fn config_of(bytes: &[u8; 106]) -> Config {
+    Config {
+        unlocked: bytes[0] == 1,
+        index: bytes[1],
+        number: bytes[2],
+        activate: bytes[3],
+        runtime: word(bytes[5], bytes[4]),
+        key: word(bytes[7], bytes[6]),
+        control: bytes[8],
+    }
+}
+
+fn key_of(bytes: &[u8; 106]) -> Key {
+    Key {
+        bytes: [
+            bytes[9],
+            bytes[10],
+            bytes[11],
+            bytes[12],
+            bytes[13],
+            bytes[14],
+            bytes[15],
+            bytes[16],
+            bytes[17],
+            bytes[18],
+            bytes[19],
+            bytes[20],
+            bytes[21],
+            bytes[22],
+            bytes[23],
+            bytes[24],
+            bytes[25],
+            bytes[26],
+            bytes[27],
+            bytes[28],
+            bytes[29],
+            bytes[30],
+            bytes[31],
+            bytes[32],
+            bytes[33],
+            bytes[34],
+            bytes[35],
+            bytes[36],
+            bytes[37],
+            bytes[38],
+            bytes[39],
+            bytes[40],
+        ],
+    }
+}
+
+fn monitor_of(bytes: &[u8; 106]) -> Monitor {
+    Monitor {
+        index: bytes[41],
+        registers: [
+            bytes[42],
+            bytes[45],
+            bytes[46],
+            bytes[47],
+            bytes[48],
+            bytes[49],
+            bytes[50],
+            bytes[56],
+            bytes[57],
+            bytes[58],
+            bytes[59],
+            bytes[60],
+        ],
+    }
+}
+
+fn acpi_of(bytes: &[u8; 106]) -> Acpi {
+    let maps = [
+        word(bytes[77], bytes[78]),
+        word(bytes[79], bytes[80]),
+        word(bytes[81], bytes[82]),
+        word(bytes[83], bytes[84]),
+        word(bytes[85], bytes[86]),
+        word(bytes[87], bytes[88]),
+        word(bytes[89], bytes[90]),
+        word(bytes[91], bytes[92]),
+    ];
+    let levels = [
+        bytes[98] == 1,
+        bytes[99] == 1,
+        bytes[100] == 1,
+        bytes[101] == 1,
+        bytes[102] == 1,
+        bytes[103] == 1,
+        bytes[104] == 1,
+        bytes[105] == 1,
+    ];
+    Acpi {
+        pcnt: bytes[61],
+        cpu: bytes[62],
+        scien: bytes[63] == 1,
+        pm1sts: word(bytes[64], bytes[65]),
+        pm1en: word(bytes[66], bytes[67]),
+        pm1cnt: word(bytes[68], bytes[69]),
+        sleeping: bytes[70] == 1,
+        setupidx: word(bytes[71], bytes[72]),
+        gpe0sts: word(bytes[73], bytes[74]),
+        gpe0en: word(bytes[75], bytes[76]),
+        maps,
+        irq: bytes[93],
+        timer: long(bytes[94], bytes[95], bytes[96], bytes[97]),
+        levels,
+    }
+}
+
+pub fn device_of(bytes: &[u8; 106]) -> Loaded {
+    let config = config_of(bytes);
+    let key = key_of(bytes);
+    let monitor = monitor_of(bytes);
+    let acpi = acpi_of(bytes);
+    let device = Device {
+        config,
+        key,
+        monitor,
+        acpi,
+    };
+    Loaded {
+        valid: is_held(bytes),
+        device,
+    }
+}
