@@ -1,0 +1,35 @@
+-- Document 01: what the compiler answers, and every byte of the image buffer afterwards.
+use Prim.Native.Nat.{ℕ, _*_}
+use mathlib.Core.Bool.{Bool, cond}
+use mathlib.Core.List.{List, _++_}
+use lib.Dec.{eqb, ltb}
+use lib.ListN.{drop, length}
+use Rattle.script.specs.Records.{recordCount}
+use Rattle.script.specs.Refusals.{Refusal, refusal, scriptRefusal, wordsIn}
+use Rattle.compiler.specs.Words.{imageBytes, wordsOf}
+use Rattle.compiler.specs.declared.Compiled.{Compiled}
+
+-- 9: "image buffer too short (record count)"
+abbrev pub tooShort : List ℕ → List ℕ → Bool
+tooShort script image = ltb (length image) (12 * wordsIn script)
+
+-- "then 7, 8, 9"
+unfoldable pub compileRefusal : List ℕ → List ℕ → Refusal
+compileRefusal script image =
+    cond (eqb (scriptRefusal script .number) 0)
+    (cond (tooShort script image) (refusal 9 (recordCount script)) (refusal 0 0))
+    (scriptRefusal script)
+
+-- "else the word count"; a refusal's other numbers are 0
+unfoldable pub compiled : List ℕ → List ℕ → Compiled
+compiled script image = record {
+  refusal = compileRefusal script image .number;
+  place = compileRefusal script image .place;
+  words = cond (eqb (compileRefusal script image .number) 0) (wordsIn script) 0
+}
+
+-- a refusal leaves the buffer as lent; "Success leaves the image buffer's rest as lent."
+unfoldable pub imageAfter : List ℕ → List ℕ → List ℕ
+imageAfter script image =
+    cond (eqb (compileRefusal script image .number) 0)
+    (imageBytes (wordsOf script) ++ drop (12 * wordsIn script) image) image

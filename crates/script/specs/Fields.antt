@@ -1,0 +1,23 @@
+-- Document 01, "Scripts and images": which fields a kind uses. "Unused fields are zero." "Values of kinds 3 and 4 are 0 to
+-- 65,535; of 1 and 5 they fit the width."
+use Prim.Native.Nat.{ℕ}
+use mathlib.Core.Bool.{Bool, cond, _&&_, _||_}
+use lib.Dec.{eqb, leb}
+use Rattle.record.specs.declared.Record.{Record}
+use Rattle.width.specs.Width.{fitsWidth, isWidth}
+
+-- port, width and a value that fits it: write, if; word 6, test
+abbrev pub valueFields : Record → Bool
+valueFields r = isWidth (r .width) && fitsWidth (r .width) (r .value)
+
+-- port and width: read
+abbrev pub readFields : Record → Bool
+readFields r = isWidth (r .width) && eqb (r .value) 0
+
+-- a value up to 65,535: delay, repeat; word 4, enter
+abbrev pub countFields : Record → Bool
+countFields r = eqb (r .width) 0 && (eqb (r .port) 0 && leb (r .value) 65535)
+
+-- none: else, end; words 5, 7 and 8
+abbrev pub noFields : Record → Bool
+noFields r = eqb (r .width) 0 && (eqb (r .port) 0 && eqb (r .value) 0)

@@ -1,0 +1,5 @@
+pub mod Fields
+pub mod Nested
+pub mod Refusals
+pub mod Records
+pub mod Scan

@@ -1,0 +1,107 @@
+-- Document 01's refusal table, rows 1 to 8, each its own definition, and the order in which they are given.
+use Prim.Native.Nat.{ℕ, suc, _+_, _-_, _%_}
+use mathlib.Core.Bool.{Bool, true, false, cond, not, _&&_, _||_}
+use mathlib.Core.List.{List, [], _∷_}
+use lib.Dec.{eqb, leb, ltb}
+use lib.ListN.{length}
+use Rattle.record.specs.declared.Record.{Record}
+use Rattle.script.specs.Fields.{countFields, noFields, readFields, valueFields}
+use Rattle.script.specs.Records.{recordCount, recordsOf}
+
+-- 1: "script length no multiple of 12, or over 1,024 records (0)"
+abbrev pub badLength : List ℕ → Bool
+badLength bytes = not (eqb (length bytes % 12) 0) || ltb 1024 (recordCount bytes)
+
+-- 2: "wrong mark (record)"; "Script mark 5A A5"
+abbrev pub wrongMark : Record → Bool
+wrongMark r = not (eqb (r .mark) 0xA55A)
+
+-- 3: "kind not 1 to 7"
+abbrev pub badKind : Record → Bool
+badKind r = not (leb 1 (r .kind) && leb (r .kind) 7)
+
+-- 4: "bad width, value or unused field". Kinds: 1 write, 2 read, 3 delay, 4 repeat, 5 if, 6 else, 7 end
+abbrev pub goodFields : Record → Bool
+goodFields r =
+    eqb (r .target) 0
+    && cond (eqb (r .kind) 1 || eqb (r .kind) 5) (valueFields r)
+    (cond (eqb (r .kind) 2) (readFields r) (cond (eqb (r .kind) 3 || eqb (r .kind) 4) (countFields r) (noFields r)))
+
+abbrev pub badFields : Record → Bool
+badFields r = not (goodFields r)
+
+-- ---- the open blocks, innermost first: 4 a repeat, 5 an if still without an else, 6 an if with its else
+abbrev pub innermost : List ℕ → ℕ
+innermost [] = 0
+innermost (b ∷ bs) = b
+
+abbrev pub outer : List ℕ → List ℕ
+outer [] = []
+outer (b ∷ bs) = bs
+
+abbrev pub repeatsIn : List ℕ → ℕ
+repeatsIn [] = 0
+repeatsIn (b ∷ bs) = cond (eqb b 4) (suc (repeatsIn bs)) (repeatsIn bs)
+
+-- the open blocks behind a record
+abbrev pub openAfter : List ℕ → ℕ → List ℕ
+openAfter blocks kind =
+    cond (eqb kind 4) (4 ∷ blocks)
+    (cond (eqb kind 5) (5 ∷ blocks) (cond (eqb kind 6) (6 ∷ outer blocks) (cond (eqb kind 7) (outer blocks) blocks)))
+
+-- 5: "else not in an if still without one; end with no open block"; "in" means the innermost open block
+abbrev pub misplaced : List ℕ → ℕ → Bool
+misplaced blocks kind =
+    (eqb kind 6 && not (eqb (innermost blocks) 5)) || (eqb kind 7 && eqb (innermost blocks) 0)
+
+-- 6: "a block opened inside 16, or a repeat inside 8 repeats"
+abbrev pub tooDeep : List ℕ → ℕ → Bool
+tooDeep blocks kind =
+    ((eqb kind 4 || eqb kind 5) && leb 16 (length blocks)) || (eqb kind 4 && leb 8 (repeatsIn blocks))
+
+-- the least number that a record meets, or 0
+unfoldable pub recordFault : List ℕ → Record → ℕ
+recordFault blocks r =
+    cond (wrongMark r) 2
+    (cond (badKind r) 3
+    (cond (badFields r) 4 (cond (misplaced blocks (r .kind)) 5 (cond (tooDeep blocks (r .kind)) 6 0))))
+
+-- a refusal's number and place; number 0 is none
+pub record Refusal : Type 0 where
+  pub number : ℕ
+  pub place : ℕ
+
+abbrev pub refusal : ℕ → ℕ → Refusal
+refusal n p = record { number = n; place = p }
+
+-- "the first record with a fault, least number; then 7": "a block still open (record count)"
+abbrev pub firstFault : List ℕ → ℕ → List Record → Refusal
+firstFault blocks place [] = cond (eqb (innermost blocks) 0) (refusal 0 0) (refusal 7 place)
+firstFault blocks place (r ∷ rs) =
+    cond (eqb (recordFault blocks r) 0) (firstFault (openAfter blocks (r .kind)) (suc place) rs)
+    (refusal (recordFault blocks r) place)
+
+-- "Records give one word in order, except that the end of an if gives none; a halt follows."
+abbrev pub givesWord : List ℕ → ℕ → Bool
+givesWord blocks kind = not (eqb kind 7) || eqb (innermost blocks) 4
+
+abbrev pub wordCount : List ℕ → List Record → ℕ
+wordCount blocks [] = 1
+wordCount blocks (r ∷ rs) =
+    cond (givesWord blocks (r .kind)) (suc (wordCount (openAfter blocks (r .kind)) rs))
+    (wordCount (openAfter blocks (r .kind)) rs)
+
+abbrev pub wordsIn : List ℕ → ℕ
+wordsIn bytes = wordCount [] (recordsOf bytes)
+
+-- 8: "over 1,024 words (record count)"
+abbrev pub tooManyWords : List ℕ → Bool
+tooManyWords bytes = ltb 1024 (wordsIn bytes)
+
+-- "Compiler: 1; then the first record with a fault, least number; then 7, 8 [..]"
+unfoldable pub scriptRefusal : List ℕ → Refusal
+scriptRefusal bytes =
+    cond (badLength bytes) (refusal 1 0)
+    (cond (eqb (firstFault [] 0 (recordsOf bytes) .number) 0)
+    (cond (tooManyWords bytes) (refusal 8 (recordCount bytes)) (refusal 0 0))
+    (firstFault [] 0 (recordsOf bytes)))
