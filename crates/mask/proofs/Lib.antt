@@ -1,3 +1,4 @@
 pub mod Bits
 pub mod Every
+pub mod HasBit
 pub mod Mask
