@@ -1,4 +1,5 @@
 pub mod Bits
+pub mod Branch
 pub mod Every
 pub mod HasBit
 pub mod Mask
