@@ -3,3 +3,4 @@ pub mod Branch
 pub mod Every
 pub mod HasBit
 pub mod Mask
+pub mod Store
