@@ -1,3 +1,4 @@
 pub mod Legal
+pub mod Range
 pub mod Settle
 pub mod Ticks
