@@ -144,39 +144,51 @@ abbrev KeptWritten : Written → Type 0
 KeptWritten w = Kept (w .acpi)
 
 module _ (a : Acpi) (h : acpiInRange a ≡ true) where
+  r : Ranged a
+  r = apart a h
+
   pub timer-below : a .timer < 2 ^ 24
-  timer-below = ltb-true (a .timer) (2 ^ 24) (apart a h .timer)
+  timer-below = ltb-true (a .timer) (2 ^ 24) (r .timer)
 
   -- ---- one register changed; levels, SCI_EN, sleep and GPE0 take any value
   kept-pcnt : (v : ℕ) → within 0x17 v ≡ true → Kept (withPcnt a v)
-  kept-pcnt v k = let r = apart a h in together (withPcnt a v) k (r .cpu) (r .pm1sts) (r .pm1en) (r .pm1cnt) (r .setupidx) (r .irq) (r .timer) (r .maps)
+  kept-pcnt v k =
+      together (withPcnt a v) k (r .cpu) (r .pm1sts) (r .pm1en) (r .pm1cnt) (r .setupidx) (r .irq) (r .timer) (r .maps)
 
   pub kept-cpu : (v : ℕ) → isCpuState v ≡ true → acpiInRange (withCpu a v) ≡ true
-  kept-cpu v k = let r = apart a h in together (withCpu a v) (r .pcnt) k (r .pm1sts) (r .pm1en) (r .pm1cnt) (r .setupidx) (r .irq) (r .timer) (r .maps)
+  kept-cpu v k =
+      together (withCpu a v) (r .pcnt) k (r .pm1sts) (r .pm1en) (r .pm1cnt) (r .setupidx) (r .irq) (r .timer) (r .maps)
 
   kept-pm1sts : (v : ℕ) → within 0x8F31 v ≡ true → Kept (withPm1sts a v)
-  kept-pm1sts v k = let r = apart a h in together (withPm1sts a v) (r .pcnt) (r .cpu) k (r .pm1en) (r .pm1cnt) (r .setupidx) (r .irq) (r .timer) (r .maps)
+  kept-pm1sts v k =
+      together (withPm1sts a v) (r .pcnt) (r .cpu) k (r .pm1en) (r .pm1cnt) (r .setupidx) (r .irq) (r .timer) (r .maps)
 
   kept-pm1en : (v : ℕ) → within 0x0721 v ≡ true → Kept (withPm1en a v)
-  kept-pm1en v k = let r = apart a h in together (withPm1en a v) (r .pcnt) (r .cpu) (r .pm1sts) k (r .pm1cnt) (r .setupidx) (r .irq) (r .timer) (r .maps)
+  kept-pm1en v k =
+      together (withPm1en a v) (r .pcnt) (r .cpu) (r .pm1sts) k (r .pm1cnt) (r .setupidx) (r .irq) (r .timer) (r .maps)
 
   kept-pm1cnt : (v : ℕ) → within 0x1C02 v ≡ true → Kept (withPm1cnt a v)
-  kept-pm1cnt v k = let r = apart a h in together (withPm1cnt a v) (r .pcnt) (r .cpu) (r .pm1sts) (r .pm1en) k (r .setupidx) (r .irq) (r .timer) (r .maps)
+  kept-pm1cnt v k =
+      together (withPm1cnt a v) (r .pcnt) (r .cpu) (r .pm1sts) (r .pm1en) k (r .setupidx) (r .irq) (r .timer) (r .maps)
 
   kept-setupidx : (v : ℕ) → isSetupIndex v ≡ true → Kept (withSetupidx a v)
-  kept-setupidx v k = let r = apart a h in together (withSetupidx a v) (r .pcnt) (r .cpu) (r .pm1sts) (r .pm1en) (r .pm1cnt) k (r .irq) (r .timer) (r .maps)
+  kept-setupidx v k =
+      together (withSetupidx a v) (r .pcnt) (r .cpu) (r .pm1sts) (r .pm1en) (r .pm1cnt) k (r .irq) (r .timer) (r .maps)
 
   kept-irq : (v : ℕ) → leb v 15 ≡ true → Kept (withIrq a v)
-  kept-irq v k = let r = apart a h in together (withIrq a v) (r .pcnt) (r .cpu) (r .pm1sts) (r .pm1en) (r .pm1cnt) (r .setupidx) k (r .timer) (r .maps)
+  kept-irq v k =
+      together (withIrq a v) (r .pcnt) (r .cpu) (r .pm1sts) (r .pm1en) (r .pm1cnt) (r .setupidx) k (r .timer) (r .maps)
 
   kept-timer : (v : ℕ) → ltb v (2 ^ 24) ≡ true → Kept (withTimer a v)
-  kept-timer v k = let r = apart a h in together (withTimer a v) (r .pcnt) (r .cpu) (r .pm1sts) (r .pm1en) (r .pm1cnt) (r .setupidx) (r .irq) k (r .maps)
+  kept-timer v k =
+      together (withTimer a v) (r .pcnt) (r .cpu) (r .pm1sts) (r .pm1en) (r .pm1cnt) (r .setupidx) (r .irq) k (r .maps)
 
   kept-maps : (ms : List ℕ) → allBelow 8 (mapInRange ms) ≡ true → Kept (withMaps a ms)
-  kept-maps ms k = let r = apart a h in together (withMaps a ms) (r .pcnt) (r .cpu) (r .pm1sts) (r .pm1en) (r .pm1cnt) (r .setupidx) (r .irq) (r .timer) k
+  kept-maps ms k =
+      together (withMaps a ms) (r .pcnt) (r .cpu) (r .pm1sts) (r .pm1en) (r .pm1cnt) (r .setupidx) (r .irq) (r .timer) k
 
   pub kept-raised : (bits : ℕ) → within 0x8F31 bits ≡ true → acpiInRange (raised a bits) ≡ true
-  kept-raised bits k = kept-pm1sts (bitOr (a .pm1sts) bits) (within-or 0x8F31 (a .pm1sts) bits (apart a h .pm1sts) k)
+  kept-raised bits k = kept-pm1sts (bitOr (a .pm1sts) bits) (within-or 0x8F31 (a .pm1sts) bits (r .pm1sts) k)
 
   -- ---- accesses
   pub acpi-read : (offset width : ℕ) → acpiInRange (acpiRead a offset width .acpi) ≡ true
@@ -190,7 +202,7 @@ module _ (a : Acpi) (h : acpiInRange a ≡ true) where
   unfolding mapWritten
   map-written pin v =
       branch-on KeptWritten (legalMap v)
-      (λ l. kept-maps (set (a .maps) pin v) (all-stored 8 (λ k. legalMap) (a .maps) pin v l (apart a h .maps)))
+      (λ l. kept-maps (set (a .maps) pin v) (all-stored 8 (λ k. legalMap) (a .maps) pin v l (r .maps)))
       (λ l. h)
 
   irq-written : (v : ℕ) → KeptWritten (irqWritten a v)
@@ -226,7 +238,7 @@ module _ (a : Acpi) (h : acpiInRange a ≡ true) where
       (branch KeptWritten (eqb offset 6) (command-written v)
       (branch KeptWritten (eqb offset 8)
       (kept-pm1sts (cleared 0xFFFF (a .pm1sts) (bitAnd v 0xFFFF))
-      (within-and 0x8F31 (a .pm1sts) (0xFFFF - bitAnd v 0xFFFF) (apart a h .pm1sts)))
+      (within-and 0x8F31 (a .pm1sts) (0xFFFF - bitAnd v 0xFFFF) (r .pm1sts)))
       (branch KeptWritten (eqb offset 10) (kept-pm1en (bitAnd v 0x0721) (within-masked 0x0721 v))
       (branch KeptWritten (eqb offset 12) (control-written v)
       (branch KeptWritten (eqb offset 14) (setup-index-written v)

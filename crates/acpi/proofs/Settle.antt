@@ -6,7 +6,7 @@ use mathlib.Core.Bool.{Bool, true, false, cond, _||_, and-false, and-true, or-tr
 use Rattle.mask.proofs.HasBit.{has-or}
 use Rattle.mask.specs.Mask.{hasBit}
 use Rattle.acpi.proofs.Legal.{either}
-use Rattle.acpi.specs.Block.{raised}
+use Rattle.acpi.specs.Block.{freshAcpi, raised}
 use Rattle.acpi.specs.Fields.{withCpu, withSleeping}
 use Rattle.acpi.specs.Settle.{pending, settled, woken}
 use Rattle.acpi.specs.declared.Acpi.{Acpi}
@@ -62,3 +62,8 @@ settled-settled a = pick (pending a) refl
     pick false h = ap settled (settled-idle a h)
     pick true h =
         rw (settled-pending a h) (settled-pending (roused a) (pending-roused a h) ∙ roused-roused a)
+
+-- the fresh block has nothing pending
+pub settled-fresh : settled freshAcpi ≡ freshAcpi
+unfolding pending
+settled-fresh = settled-idle freshAcpi refl
