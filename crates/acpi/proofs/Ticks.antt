@@ -7,7 +7,7 @@ use native.Mathlib.Omega.{arith}
 use native.Mathlib.Decide.{ℕ-discrete}
 use borrow.Author.Tests.{eq-eqb, ne-eqb, lt-ltb, le-ltb, ltb-true, ltb-false}
 use lib.Bits.{bitOr, or-comm}
-use lib.Dec.{eqb, ltb}
+use lib.Dec.{eqb}
 use Rattle.mask.proofs.Bits.{or-assoc}
 use Rattle.acpi.proofs.Settle.{pending-raised, pending-roused, roused, settled-idle, settled-pending}
 use Rattle.acpi.specs.Block.{raised}

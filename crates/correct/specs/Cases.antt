@@ -5,7 +5,6 @@ use mathlib.Core.Bool.{Bool, true, false, not, _&&_}
 use mathlib.Core.List.{List, [], _∷_}
 use lib.Dec.{eqb}
 use lib.ListN.{getD}
-use Rattle.access.specs.declared.Access.{Access}
 use Rattle.acpi.specs.Block.{freshAcpi}
 use Rattle.acpi.specs.Fields.{withPm1en, withPm1sts, withScien, withSetupidx, withTimer}
 use Rattle.acpi.specs.Settle.{pending, sciOn}

@@ -1,7 +1,7 @@
 -- The fresh device is in range, and every access and event leaves it so, as each block's own law says; reset 3 gives
 -- the fresh device, which settling does not change. Assumes nothing.
 use Prim.Native.Nat.{ℕ, _+_, _-_, _*_, _%_, _^_}
-use mathlib.Core.Path.{_≡_, refl, sym}
+use mathlib.Core.Path.{_≡_, refl}
 use mathlib.Core.Bool.{true, _&&_}
 use lib.Bits.{and-mask}
 use lib.Dec.{eqb}
@@ -16,7 +16,7 @@ use Rattle.acpi.proofs.Range.{
   kept-raised,
   reset-acpi,
 }
-use Rattle.acpi.specs.Block.{acpiInRange, freshAcpi, raised, resetAcpi}
+use Rattle.acpi.specs.Block.{acpiInRange, raised}
 use Rattle.acpi.specs.Happen.{pinned, ticked}
 use Rattle.acpi.specs.Registers.{acpiRead, acpiWritten}
 use Rattle.acpi.specs.Settle.{settled}
@@ -36,7 +36,6 @@ use Rattle.mask.proofs.Mask.{within-masked}
 use Rattle.mask.specs.Mask.{hasBit, within}
 use Rattle.monitor.proofs.Range.{fresh-monitor, monitor-data-written, monitor-index-written, monitor-sensed}
 use Rattle.monitor.specs.Monitor.{
-  freshMonitor,
   monitorDataWritten,
   monitorInRange,
   monitorIndexWritten,
@@ -57,7 +56,6 @@ use Rattle.device.specs.Event.{
   kindOf,
   moved,
   operandOf,
-  pciReset,
   resetBy,
   statusBit,
   vccReset,

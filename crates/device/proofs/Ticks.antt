@@ -1,6 +1,6 @@
 -- n ticks of the device are n single ticks, for 1 to 65,535 and every device in range: the ACPI block's own law, and
 -- nothing else of the device changes. Assumes nothing.
-use Prim.Native.Nat.{ℕ, zero, suc, _+_, _/_, _%_, _^_, _≤_}
+use Prim.Native.Nat.{ℕ, zero, suc, _+_, _^_, _≤_}
 use mathlib.Core.Path.{_≡_, refl, sym, ap, _∙_}
 use mathlib.Core.Bool.{true}
 use native.Mathlib.Omega.{arith}
@@ -9,7 +9,6 @@ use Rattle.acpi.proofs.Ticks.{ticks}
 use Rattle.acpi.specs.Happen.{ticked}
 use Rattle.acpi.specs.Settle.{settled}
 use Rattle.acpi.specs.Times.{times}
-use Rattle.acpi.specs.declared.Acpi.{Acpi}
 use Rattle.device.proofs.Range.{acpi-in-range}
 use Rattle.device.specs.Device.{deviceInRange, settledDevice, withAcpi}
 use Rattle.device.specs.Event.{happened, kindOf, moved, operandOf}

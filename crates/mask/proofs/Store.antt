@@ -1,6 +1,6 @@
 -- A list whose every register passes the test of its place still does after a store of a value that passes there; a
 -- store beyond the list's end changes nothing. Assumes nothing.
-use Prim.Native.Nat.{ℕ, zero, suc, _<_}
+use Prim.Native.Nat.{ℕ, zero, suc}
 use mathlib.Core.Path.{_≡_}
 use mathlib.Core.Bool.{Bool, true}
 use mathlib.Core.List.{List, [], _∷_}
