@@ -1,1 +1,4 @@
 pub mod Legal
+pub mod Range
+pub mod Settle
+pub mod Ticks

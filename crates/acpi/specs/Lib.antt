@@ -5,3 +5,4 @@ pub mod Map
 pub mod Registers
 pub mod Settle
 pub mod Setup
+pub mod Times

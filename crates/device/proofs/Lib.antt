@@ -1,1 +1,4 @@
 pub mod Claims
+pub mod Range
+pub mod Settle
+pub mod Ticks

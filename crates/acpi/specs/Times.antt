@@ -1,0 +1,6 @@
+-- Document 01, "Outside events": "same as that many single ticks": the same step, n times.
+use Prim.Native.Nat.{ℕ, zero, suc}
+
+abbrev pub times : {A : Type 0} → ℕ → (A → A) → A → A
+times zero f a = a
+times (suc n) f a = f (times n f a)

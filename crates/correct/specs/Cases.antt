@@ -1,0 +1,158 @@
+-- Document 01, "Cases to prove (P) and to run": "One statement over one list holds P1 to P11". Each case is a test over
+-- the device's definitions, on the fresh device with what the case names changed.
+use Prim.Native.Nat.{ℕ, _+_, _*_, _^_}
+use mathlib.Core.Bool.{Bool, true, false, not, _&&_}
+use mathlib.Core.List.{List, [], _∷_}
+use lib.Dec.{eqb}
+use lib.ListN.{getD}
+use Rattle.acpi.specs.Block.{freshAcpi}
+use Rattle.acpi.specs.Fields.{withPm1en, withPm1sts, withScien, withSetupidx, withTimer}
+use Rattle.acpi.specs.Settle.{pending, sciOn}
+use Rattle.acpi.specs.declared.Acpi.{Acpi}
+use Rattle.config.specs.Config.{
+  freshConfig,
+  withActivate,
+  withControl,
+  withIndex,
+  withKey,
+  withNumber,
+  withRuntime,
+  withUnlocked,
+}
+use Rattle.config.specs.declared.Config.{Config}
+use Rattle.mask.specs.Mask.{hasBit}
+use Rattle.monitor.specs.Monitor.{freshMonitor, lockSet, register, stored}
+use Rattle.monitor.specs.Table.{slotOf}
+use Rattle.monitor.specs.declared.Monitor.{Monitor}
+use Rattle.device.specs.Device.{freshDevice, withAcpi, withConfig, withMonitor}
+use Rattle.device.specs.Event.{happened}
+use Rattle.device.specs.Reach.{accessed}
+use Rattle.device.specs.declared.Device.{Device}
+use Rattle.device.specs.declared.Reached.{Reached}
+
+-- ---- accesses, events, and what is looked at afterwards
+abbrev reading : Device → ℕ → ℕ → Reached
+reading d w p = accessed d (record { write = false; width = w; port = p; value = 0 })
+
+abbrev writing : Device → ℕ → ℕ → ℕ → Reached
+writing d w p v = accessed d (record { write = true; width = w; port = p; value = v })
+
+abbrev answers : Reached → ℕ → ℕ → Bool
+answers r s v = eqb (r .answer .status) s && eqb (r .answer .value) v
+
+abbrev tick : Device → Device
+tick d = happened d (1 * 2 ^ 24 + 1)
+
+-- the fresh device with another block
+abbrev configured : Config → Device
+configured g = withConfig freshDevice g
+
+abbrev powered : Acpi → Device
+powered a = withAcpi freshDevice a
+
+-- ---- P1 fresh: 2Fh reads FFh, status 1
+unfoldable pub p1 : Bool
+p1 = answers (reading freshDevice 1 0x002F) 1 0xFF
+
+-- ---- P2 key control 07h: write 00h is status 2; after PCI reset it is 04h
+abbrev locked : Device
+locked = configured (withControl (withIndex (withNumber (withUnlocked freshConfig true) 0x0A) 0xF2) 0x07)
+
+unfoldable pub p2 : Bool
+p2 =
+    answers (reading locked 1 0x002F) 0 0x07
+    && (answers (writing locked 1 0x002F 0x00) 2 0
+    && (eqb (writing locked 1 0x002F 0x00 .device .config .control) 0x07
+    && eqb (happened (writing locked 1 0x002F 0x00 .device) (6 * 2 ^ 24 + 0) .config .control) 0x04))
+
+-- ---- P3 key base 0020h, active: 0020h is key byte 0, 002Eh configuration; the fresh key control is write-locked, so it
+-- is 00h here
+abbrev keyed : Device
+keyed = configured (withControl (withKey (withActivate freshConfig 0x01) 0x0020) 0x00)
+
+abbrev keyWrite : Reached
+keyWrite = writing keyed 1 0x0020 0x5A
+
+abbrev indexWrite : Reached
+indexWrite = writing keyed 1 0x002E 0x55
+
+unfoldable pub p3 : Bool
+p3 =
+    answers keyWrite 0 0
+    && (eqb (getD (keyWrite .device .key .bytes) 0 0) 0x5A
+    && (answers (reading (keyWrite .device) 1 0x0020) 0 0x5A
+    && (answers indexWrite 0 0 && (indexWrite .device .config .unlocked && eqb (getD (indexWrite .device .key .bytes) 0x0E 0) 0))))
+
+-- ---- P4 Lock set: 7Eh write status 2; 83h holding 03h, written 03h, becomes 00h
+abbrev watched : Monitor → Device
+watched m = withMonitor (configured (withRuntime (withActivate freshConfig 0x01) 0x0400)) m
+
+-- Lock is bit 1 of 40h
+abbrev lockedMonitor : Device
+lockedMonitor = watched (stored (stored freshMonitor (slotOf 0x40) 0x02) (slotOf 0x83) 0x03)
+
+-- a write of a monitor register: its index, then the data
+abbrev monitorWrite : ℕ → ℕ → Reached
+monitorWrite i v = writing (writing lockedMonitor 1 0x0470 i .device) 1 0x0471 v
+
+unfoldable pub p4 : Bool
+p4 =
+    lockSet (lockedMonitor .monitor)
+    && (answers (monitorWrite 0x7E 0x00) 2 0
+    && (eqb (register (monitorWrite 0x7E 0x00 .device .monitor) 0x7E) 0xEC
+    && (eqb (register (lockedMonitor .monitor) 0x83) 0x03
+    && (answers (monitorWrite 0x83 0x03) 0 0
+    && (eqb (register (monitorWrite 0x83 0x03 .device .monitor) 0x83) 0x00
+    && answers (reading (monitorWrite 0x83 0x03 .device) 1 0x0471) 0 0x00)))))
+
+-- ---- P5 timer FFFFFFh, one tick: 0, TMR_STS set; 7FFFFFh, one tick: not set
+unfoldable pub p5 : Bool
+p5 =
+    eqb (tick (powered (withTimer freshAcpi 0xFFFFFF)) .acpi .timer) 0
+    && (hasBit 0x0001 (tick (powered (withTimer freshAcpi 0xFFFFFF)) .acpi .pm1sts)
+    && (eqb (tick (powered (withTimer freshAcpi 0x7FFFFF)) .acpi .timer) 0x800000
+    && not (hasBit 0x0001 (tick (powered (withTimer freshAcpi 0x7FFFFF)) .acpi .pm1sts))))
+
+-- ---- P6 PM1a_STS 0101h, written 0100h: 0001h
+abbrev statusWrite : Reached
+statusWrite = writing (powered (withPm1sts freshAcpi 0x0101)) 2 0xAC08 0x0100
+
+unfoldable pub p6 : Bool
+p6 = answers statusWrite 0 0 && eqb (statusWrite .device .acpi .pm1sts) 0x0001
+
+-- ---- P7 SETUP_IDX written 42h: status 5, index kept
+abbrev setupWrite : Reached
+setupWrite = writing (powered (withSetupidx freshAcpi 0x41)) 2 0xAC0E 0x42
+
+unfoldable pub p7 : Bool
+p7 = answers setupWrite 5 0 && eqb (setupWrite .device .acpi .setupidx) 0x41
+
+-- ---- P8 P_LVL2 read with SCI on: CPU state 0
+-- TMR_STS set and enabled: pending
+abbrev alarmed : Acpi
+alarmed = withPm1en (withPm1sts freshAcpi 0x0001) 0x0001
+
+abbrev sciDevice : Device
+sciDevice = powered (withScien alarmed true)
+
+unfoldable pub p8 : Bool
+p8 =
+    sciOn (sciDevice .acpi)
+    && (answers (reading sciDevice 1 0xAC04) 0 0 && eqb (reading sciDevice 1 0xAC04 .device .acpi .cpu) 0)
+
+-- ---- P9 sleep written with pending: awake, WAKE_STS set
+abbrev sleepWrite : Reached
+sleepWrite = writing (powered alarmed) 2 0xAC0C 0x2000
+
+unfoldable pub p9 : Bool
+p9 =
+    pending alarmed
+    && (answers sleepWrite 0 0
+    && (not (sleepWrite .device .acpi .sleeping) && hasBit 0x8000 (sleepWrite .device .acpi .pm1sts)))
+
+abbrev pub cases : List Bool
+cases = p1 ∷ p2 ∷ p3 ∷ p4 ∷ p5 ∷ p6 ∷ p7 ∷ p8 ∷ p9 ∷ []
+
+abbrev pub every : List Bool → Bool
+every [] = true
+every (c ∷ cs) = c && every cs

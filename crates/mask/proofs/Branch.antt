@@ -1,0 +1,12 @@
+-- What holds of both branches of a test holds of its outcome; `branch-on` tells each branch what the test gave.
+-- Assumes nothing.
+use mathlib.Core.Path.{_≡_, refl}
+use mathlib.Core.Bool.{Bool, true, false, cond}
+
+pub branch : {A : Type 0} (P : A → Type 0) (b : Bool) {x y : A} → P x → P y → P (cond b x y)
+branch P true h k = h
+branch P false h k = k
+
+pub branch-on : {A : Type 0} (P : A → Type 0) (b : Bool) {x y : A} → (b ≡ true → P x) → (b ≡ false → P y) → P (cond b x y)
+branch-on P true h k = h refl
+branch-on P false h k = k refl
