@@ -25,7 +25,7 @@ unfoldable pub compiled : List ℕ → List ℕ → Compiled
 compiled script image = record {
   refusal = compileRefusal script image .number;
   place = compileRefusal script image .place;
-  words = cond (eqb (compileRefusal script image .number) 0) (wordsIn script) 0
+  words = cond (eqb (compileRefusal script image .number) 0) (wordsIn script) 0;
 }
 
 -- a refusal leaves the buffer as lent; "Success leaves the image buffer's rest as lent."

@@ -18,7 +18,7 @@ recordAt bytes at = record {
   target = pair (getD bytes (at + 6) 0) (getD bytes (at + 7) 0);
   value =
       pair (getD bytes (at + 8) 0) (getD bytes (at + 9) 0)
-      + pair (getD bytes (at + 10) 0) (getD bytes (at + 11) 0) * 65536
+      + pair (getD bytes (at + 10) 0) (getD bytes (at + 11) 0) * 65536;
 }
 
 -- its twelve bytes

@@ -19,6 +19,7 @@ impl Record {
     pub const SIZE: usize = 12;
     // 5A A5 and C3 3C, in the order of the bytes.
     pub const SCRIPT_MARK: u32 = 0xA55A;
+
     pub const WORD_MARK: u32 = 0x3CC3;
 }
 

@@ -1,11 +1,28 @@
--- What a scan of a script finds: its refusal, or how many words it gives.
-use Prim.Native.Nat.{ℕ, zero, suc}
-use mathlib.Core.Bool.{cond}
+-- What a scan of a script finds, and the open blocks as the scan keeps them.
+use Prim.Native.Nat.{ℕ, zero, suc, _≤_}
+use mathlib.Core.Path.{_≡_}
+use mathlib.Core.Bool.{Bool, cond, _&&_, _||_}
 use mathlib.Core.List.{List, [], _∷_}
-use lib.ListN.{getD}
+use lib.Dec.{eqb, leb}
+use lib.ListN.{getD, length}
 use Rattle.record.specs.declared.Record.{Record}
-use Rattle.script.specs.Refusals.{badFields, badKind, wrongMark}
+use Rattle.script.specs.Records.{recordCount, recordsOf}
+use Rattle.script.specs.Refusals.{
+  badFields,
+  badKind,
+  firstFault,
+  givesWord,
+  innermost,
+  refusal,
+  repeatsIn,
+  scriptRefusal,
+  wordCount,
+  wordsIn,
+  wrongMark,
+  Refusal,
+}
 use Rattle.script.specs.declared.Open.{Open}
+use Rattle.script.specs.declared.Scan.{Scan}
 
 -- what a record shows by itself: 2, 3, 4, or 0
 unfoldable pub shapeFault : Record → ℕ
@@ -18,3 +35,20 @@ stackOf (suc n) xs = getD xs n 0 ∷ stackOf n xs
 
 abbrev pub blocksOf : Open → List ℕ
 blocksOf o = stackOf (o .depth) (o .blocks)
+
+-- there is room for 16 blocks, and no more are open
+pub record Kept (o : Open) : Type 0 where
+  pub deep : o .depth ≤ 16
+  pub sized : length (o .blocks) ≡ 16
+
+-- a refusal has no words
+abbrev pub scanned : Refusal → ℕ → Scan
+scanned f n = record { number = f .number; place = f .place; words = cond (eqb (f .number) 0) n 0 }
+
+-- refusals 2 to 7 of the records, or their words
+unfoldable pub recordsScan : List ℕ → Scan
+recordsScan bytes = scanned (firstFault [] 0 (recordsOf bytes)) (wordsIn bytes)
+
+-- refusals 1 to 8, or the words
+unfoldable pub scriptScan : List ℕ → Scan
+scriptScan bytes = scanned (scriptRefusal bytes) (wordsIn bytes)

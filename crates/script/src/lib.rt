@@ -1,11 +1,14 @@
 // Scripts: document 01, "Scripts and images". The scan gives refusals 1 to 8, or how many words the script has.
 use record::Record;
 ghost use mathlib.Core.Path.{_≡_};
-ghost use Prim.Native.Nat.{_+_, _*_, _≤_, _<_};
+ghost use mathlib.Core.Bool.{true, false, _&&_, _||_, cond};
+ghost use mathlib.Core.List.{[], _∷_};
+ghost use Prim.Native.Nat.{_+_, _*_, _≤_, _<_, _/_};
+ghost use lib.Dec.{eqb, leb};
 ghost use lib.ListN.{length};
 ghost use Rattle.script.specs.Fields.{valueFields, readFields, countFields, noFields};
-ghost use Rattle.script.specs.Refusals.{goodFields, innermost};
-ghost use Rattle.script.specs.Scan.{shapeFault, blocksOf};
+ghost use Rattle.script.specs.Refusals.{goodFields, innermost, misplaced, openAfter, givesWord};
+ghost use Rattle.script.specs.Scan.{Kept, shapeFault, blocksOf, recordsScan, scriptScan};
 
 // The open blocks, innermost last: a repeat, an if still without an else, an if with its else.
 pub struct Open {
@@ -21,11 +24,17 @@ pub struct Scan {
 }
 
 pub const WRITE: u32 = 1;
+
 pub const READ: u32 = 2;
+
 pub const DELAY: u32 = 3;
+
 pub const REPEAT: u32 = 4;
+
 pub const IF: u32 = 5;
+
 pub const ELSE: u32 = 6;
+
 pub const END: u32 = 7;
 
 // The fields that a kind uses, without the target.
@@ -113,4 +122,185 @@ fn shape_fault(r: Record) -> u32
         return 0;
     }
     4
+}
+
+impl Open {
+    pub fn none() -> Self
+        ensures { λ o. ⌜ Kept o × (o .depth ≡ 0) ⌝ }
+    {
+        Open {
+            blocks: [0; 16],
+            depth: 0,
+        }
+    }
+
+    // The kind of the innermost open block, or 0.
+    pub fn innermost(self) -> u8
+        requires { ⌜ Kept self ⌝ }
+        ensures { λ r. ⌜ r ≡ innermost (blocksOf self) ⌝ }
+    {
+        let depth = self.depth;
+        if depth == 0 {
+            return 0;
+        }
+        self.blocks[depth - 1]
+    }
+
+    // An else that is not in an if still without one, or an end with no open block.
+    fn misplaced(self, kind: u32) -> bool
+        requires { ⌜ Kept self ⌝ }
+        ensures { λ r. ⌜ r ≡ misplaced (blocksOf self) kind ⌝ }
+    {
+        let innermost = self.innermost();
+        if kind == ELSE {
+            return innermost != 5;
+        }
+        if kind == END {
+            return innermost == 0;
+        }
+        false
+    }
+
+    // A block opened inside 16.
+    fn is_full(self, kind: u32) -> bool
+        ensures { λ r. ⌜ r ≡ ((eqb kind 4 || eqb kind 5) && leb 16 (self .depth)) ⌝ }
+    {
+        if kind == REPEAT {
+            return 16 <= self.depth;
+        }
+        if kind == IF {
+            return 16 <= self.depth;
+        }
+        false
+    }
+
+    // How many open blocks a record of this kind has to look at: a repeat at all of them.
+    fn walk(self, kind: u32) -> usize
+        ensures { λ r. ⌜ r ≡ cond (eqb kind 4) (self .depth) 0 ⌝ }
+    {
+        if kind == REPEAT {
+            return self.depth;
+        }
+        0
+    }
+
+    // Does a record of this kind give a word? The end of an if gives none.
+    fn gives(self, kind: u32) -> u32
+        requires { ⌜ Kept self ⌝ }
+        ensures { λ r. ⌜ r ≡ cond (givesWord (blocksOf self) kind) 1 0 ⌝ }
+    {
+        if kind != END {
+            return 1;
+        }
+        if self.innermost() == 4 {
+            return 1;
+        }
+        0
+    }
+
+    // The open blocks behind a record that is well placed.
+    fn after(mut self, kind: u32) -> Self
+        requires { ⌜ Kept self ⌝ }
+        requires { ⌜ ((eqb kind 4 || eqb kind 5) && leb 16 (self .depth)) ≡ false ⌝ }
+        requires { ⌜ misplaced (blocksOf self) kind ≡ false ⌝ }
+        ensures { λ r. ⌜ Kept r × (blocksOf r ≡ openAfter (blocksOf self) kind) ⌝ }
+    {
+        let depth = self.depth;
+        if kind == REPEAT {
+            return self.pushed(4);
+        }
+        if kind == IF {
+            return self.pushed(5);
+        }
+        if kind == ELSE {
+            self.blocks[depth - 1] = 6;
+            return self;
+        }
+        if kind == END {
+            self.depth = depth - 1;
+            return self;
+        }
+        self
+    }
+
+    fn pushed(mut self, block: u8) -> Self
+        requires { ⌜ Kept self × (self .depth < 16) ⌝ }
+        ensures { λ r. ⌜ Kept r × (blocksOf r ≡ block ∷ blocksOf self) ⌝ }
+    {
+        let depth = self.depth;
+        self.blocks[depth] = block;
+        self.depth = depth + 1;
+        self
+    }
+}
+
+fn is_repeat(block: u8) -> u32
+    ensures { λ r. ⌜ r ≡ cond (eqb block 4) 1 0 ⌝ }
+{
+    if block == 4 {
+        return 1;
+    }
+    0
+}
+
+// Refusals 2 to 7, or how many words the records give.
+fn scan_records(script: &[u8], count: usize) -> Scan
+    requires { ⌜ (count ≤ 1024) × (count ≡ length (now script) / 12) ⌝ }
+    ensures { λ r. ⌜ r ≡ recordsScan (now (script .entry)) ⌝ }
+{
+    let mut open = Open::none();
+    let mut words: u32 = 1;
+    let mut number: u32 = 0;
+    let mut k: usize = 0;
+    'scan: while k < count {
+        let r = record::read(script, 12 * k);
+        let kind = r.kind;
+        let shape = shape_fault(r);
+        if shape != 0 {
+            number = shape;
+            break 'scan;
+        }
+        if open.misplaced(kind) {
+            number = 5;
+            break 'scan;
+        }
+        if open.is_full(kind) {
+            number = 6;
+            break 'scan;
+        }
+        let blocks = open.blocks;
+        let walk = open.walk(kind);
+        let mut repeats: u32 = 0;
+        let mut b: usize = 0;
+        while b < walk {
+            repeats = repeats + is_repeat(blocks[b]);
+            if repeats == 8 {
+                number = 6;
+                break 'scan;
+            }
+            b = b + 1;
+        }
+        words = words + open.gives(kind);
+        open = open.after(kind);
+        k = k + 1;
+    }
+    if number != 0 {
+        return Scan {
+            number,
+            place: k as u32,
+            words: 0,
+        };
+    }
+    if open.innermost() != 0 {
+        return Scan {
+            number: 7,
+            place: k as u32,
+            words: 0,
+        };
+    }
+    Scan {
+        number: 0,
+        place: 0,
+        words,
+    }
 }

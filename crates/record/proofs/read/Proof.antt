@@ -93,13 +93,14 @@ four-requires c κs = search needs
 
 returns : tie.Need-returns
 unfolding recordAt
-returns c = simp
-    (c .before .before .before .before .before .before .before .before .before .before .before .before .before .before .before .two .ensures,
-    c .before .before .before .before .before .before .before .before .before .before .before .before .before .wide .ensures,
-    c .before .before .before .before .before .before .before .before .before .before .before .wide2 .ensures,
-    c .before .before .before .before .before .before .before .before .two2 .ensures,
-    c .before .before .before .before .before .two3 .ensures,
-    c .four .ensures)
+returns c = simp (
+  c .before .before .before .before .before .before .before .before .before .before .before .before .before .before .before .two .ensures,
+  c .before .before .before .before .before .before .before .before .before .before .before .before .before .wide .ensures,
+  c .before .before .before .before .before .before .before .before .before .before .before .wide2 .ensures,
+  c .before .before .before .before .before .before .before .before .two2 .ensures,
+  c .before .before .before .before .before .two3 .ensures,
+  c .four .ensures,
+)
 
 pub read-spec : {M : Type 1} → statement M
 read-spec =

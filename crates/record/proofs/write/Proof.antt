@@ -84,19 +84,20 @@ same-length c = simp length-set
 
 returns : tie.Need-returns
 unfolding bytesOf
-returns c = simp
-    (c .before .before .before .before .before .before .before .before .before .before .before .before .before .before .before .before .before .byte .ensures,
-    c .before .before .before .before .before .before .before .before .before .before .before .before .before .before .before .byte2 .ensures,
-    c .before .before .before .before .before .before .before .before .before .before .before .before .before .before .byte3 .ensures,
-    c .before .before .before .before .before .before .before .before .before .before .before .before .before .byte4 .ensures,
-    c .before .before .before .before .before .before .before .before .before .before .before .before .byte5 .ensures,
-    c .before .before .before .before .before .before .before .before .before .before .byte6 .ensures,
-    c .before .before .before .before .before .before .before .before .before .byte7 .ensures,
-    c .before .before .before .before .before .before .before .byte8 .ensures,
-    c .before .before .before .before .before .before .byte9 .ensures,
-    c .before .before .before .before .byte10 .ensures,
-    c .before .before .byte11 .ensures,
-    c .byte12 .ensures)
+returns c = simp (
+  c .before .before .before .before .before .before .before .before .before .before .before .before .before .before .before .before .before .byte .ensures,
+  c .before .before .before .before .before .before .before .before .before .before .before .before .before .before .before .byte2 .ensures,
+  c .before .before .before .before .before .before .before .before .before .before .before .before .before .before .byte3 .ensures,
+  c .before .before .before .before .before .before .before .before .before .before .before .before .before .byte4 .ensures,
+  c .before .before .before .before .before .before .before .before .before .before .before .before .byte5 .ensures,
+  c .before .before .before .before .before .before .before .before .before .before .byte6 .ensures,
+  c .before .before .before .before .before .before .before .before .before .byte7 .ensures,
+  c .before .before .before .before .before .before .before .byte8 .ensures,
+  c .before .before .before .before .before .before .byte9 .ensures,
+  c .before .before .before .before .byte10 .ensures,
+  c .before .before .byte11 .ensures,
+  c .byte12 .ensures,
+)
     (twelve (c .before .before .before .before .before .before .before .before .before .before .before .before .before .before .before .before .before .before .before .args .part .now) _ _ _ _ _ _ _ _ _ _ _ _ (c .before .before .before .before .before .before .before .before .before .before .before .before .before .before .before .before .before .before .before .pre))
 
 pub write-spec : {M : Type 1} → statement M

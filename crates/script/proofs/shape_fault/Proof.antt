@@ -11,44 +11,48 @@ returns c = simp (ne-eqb _ _ (c .if1 .taken))
 
 returns-2 : tie.Need-returns-2
 unfolding shapeFault
-returns-2 c = simp
-    (eq-eqb _ _ (c .before .before .if1 .left),
-    lt-ltb _ _ (c .if2 .taken),
-    lt-leb _ _ (c .if2 .taken))
+returns-2 c = simp (
+  eq-eqb _ _ (c .before .before .if1 .left),
+  lt-ltb _ _ (c .if2 .taken),
+  lt-leb _ _ (c .if2 .taken),
+)
 
 returns-3 : tie.Need-returns-3
 unfolding shapeFault
-returns-3 c = simp
-    (eq-eqb _ _ (c .before .before .before .before .if1 .left),
-    le-ltb _ _ (c .before .before .if2 .left),
-    le-leb _ _ (c .before .before .if2 .left),
-    lt-ltb _ _ (c .if3 .taken),
-    lt-leb _ _ (c .if3 .taken))
+returns-3 c = simp (
+  eq-eqb _ _ (c .before .before .before .before .if1 .left),
+  le-ltb _ _ (c .before .before .if2 .left),
+  le-leb _ _ (c .before .before .if2 .left),
+  lt-ltb _ _ (c .if3 .taken),
+  lt-leb _ _ (c .if3 .taken),
+)
 
 good-fields-requires : tie.Need-good-fields-requires
 good-fields-requires c κs = search needs
 
 returns-4 : tie.Need-returns-4
 unfolding shapeFault
-returns-4 c = simp
-    (eq-eqb _ _ (c .before .before .before .before .before .before .if1 .left),
-    le-ltb _ _ (c .before .before .before .before .if2 .left),
-    le-leb _ _ (c .before .before .before .before .if2 .left),
-    le-ltb _ _ (c .before .before .if3 .left),
-    le-leb _ _ (c .before .before .if3 .left),
-    ← (c .before .good-fields .ensures),
-    c .if4 .taken)
+returns-4 c = simp (
+  eq-eqb _ _ (c .before .before .before .before .before .before .if1 .left),
+  le-ltb _ _ (c .before .before .before .before .if2 .left),
+  le-leb _ _ (c .before .before .before .before .if2 .left),
+  le-ltb _ _ (c .before .before .if3 .left),
+  le-leb _ _ (c .before .before .if3 .left),
+  ← (c .before .good-fields .ensures),
+  c .if4 .taken,
+)
 
 returns-5 : tie.Need-returns-5
 unfolding shapeFault
-returns-5 c = simp
-    (eq-eqb _ _ (c .before .before .before .before .before .before .if1 .left),
-    le-ltb _ _ (c .before .before .before .before .if2 .left),
-    le-leb _ _ (c .before .before .before .before .if2 .left),
-    le-ltb _ _ (c .before .before .if3 .left),
-    le-leb _ _ (c .before .before .if3 .left),
-    ← (c .before .good-fields .ensures),
-    c .if4 .left)
+returns-5 c = simp (
+  eq-eqb _ _ (c .before .before .before .before .before .before .if1 .left),
+  le-ltb _ _ (c .before .before .before .before .if2 .left),
+  le-leb _ _ (c .before .before .before .before .if2 .left),
+  le-ltb _ _ (c .before .before .if3 .left),
+  le-leb _ _ (c .before .before .if3 .left),
+  ← (c .before .good-fields .ensures),
+  c .if4 .left,
+)
 
 pub shape-fault-spec : {M : Type 1} → statement M
 shape-fault-spec =

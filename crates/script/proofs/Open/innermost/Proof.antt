@@ -1,0 +1,24 @@
+-- `script::Open::innermost` meets its contract. Assumes nothing.
+use Prim.Native.Nat.{_<_}
+use native.Mathlib.Omega.{arith}
+use Rattle.script.proofs.Stack.{stack-top}
+use borrow.Author.Needs.{needs}
+use Rattle.script.proofs.Open.innermost.Statement.{statement}
+use Rattle.script.proofs.Open.innermost.Tie as tie
+
+returns : tie.Need-returns
+returns c = search needs
+
+sub-result : tie.Need-sub-result
+sub-result c = search needs
+
+element-copy-out-result : tie.Need-element-copy-out-result
+element-copy-out-result c = search needs
+
+returns-2 : tie.Need-returns-2
+returns-2 c =
+    let h : 0 < c .before .before .args .t1 .depth = omega (arith, c .before .if1 .left) in
+    rw (stack-top (c .before .before .args .t1 .depth) (c .before .before .args .t1 .blocks) h)
+
+pub innermost-spec : {M : Type 1} → statement M
+innermost-spec = tie.close (tie.spec returns sub-result element-copy-out-result returns-2)

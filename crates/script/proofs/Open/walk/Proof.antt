@@ -1,0 +1,13 @@
+-- `script::Open::walk` meets its contract. Assumes nothing.
+use borrow.Author.Tests.{eq-eqb, ne-eqb}
+use Rattle.script.proofs.Open.walk.Statement.{statement}
+use Rattle.script.proofs.Open.walk.Tie as tie
+
+returns : tie.Need-returns
+returns c = simp (eq-eqb _ _ (c .if1 .taken))
+
+returns-2 : tie.Need-returns-2
+returns-2 c = simp (ne-eqb _ _ (c .if1 .left))
+
+pub walk-spec : {M : Type 1} → statement M
+walk-spec = tie.close (tie.spec returns returns-2)
