@@ -6,19 +6,35 @@ use mathlib.Core.Bool.{Bool, true, false, cond, not, _&&_, _||_, or-true}
 use mathlib.Core.List.{List, [], _∷_}
 use native.Mathlib.Numerals.{add-one}
 use native.Mathlib.Omega.{arith}
-use borrow.Author.Tests.{eq-eqb, ne-eqb, le-leb, lt-leb, eqb-true}
+use borrow.Author.Tests.{eq-eqb, ne-eqb, le-leb, le-ltb, lt-leb, lt-ltb, eqb-false, eqb-true}
 use lib.Dec.{eqb, leb}
 use lib.ListN.{length, getD}
 use Rattle.record.specs.Record.{recordAt}
 use Rattle.record.specs.declared.Record.{Record}
 use Rattle.script.specs.Records.{recordCount, recordsFrom, recordsOf}
 use Rattle.script.specs.Refusals.{
-  badFields, badKind, firstFault, givesWord, innermost, misplaced, openAfter, recordFault, refusal, repeatsIn, tooDeep,
-  wordCount, wrongMark, Refusal
+  badFields,
+  badKind,
+  firstFault,
+  givesWord,
+  innermost,
+  misplaced,
+  openAfter,
+  recordFault,
+  refusal,
+  repeatsIn,
+  tooDeep,
+  scriptRefusal,
+  tooManyWords,
+  wordCount,
+  wordsIn,
+  wrongMark,
+  badLength,
+  Refusal,
 }
-use Rattle.script.specs.Scan.{blocksOf, Kept, recordsScan, scanned, shapeFault, stackOf}
+use Rattle.script.specs.Scan.{blocksOf, Kept, recordsScan, scanned, scriptScan, shapeFault, stackOf}
 use Rattle.script.specs.declared.Open.{Open}
-use Rattle.script.specs.declared.Scan.{Scan}
+use Rattle.script.specs.declared.Found.{Found}
 
 -- ---- a record's fault, from what it shows by itself and from the open blocks
 pub fault-parts : (blocks : List ℕ) (r : Record) →
@@ -177,7 +193,7 @@ walks kind d b h = pick (eqb kind 4) refl h
 -- ---- what the scan answers
 pub scan-faulted : (bytes : List ℕ) (count number k : ℕ) → count ≡ recordCount bytes
     → firstFault [] 0 (recordsFrom count 0 bytes) ≡ refusal number k → (number ≡ 0 → ⊥)
-    → _≡_ {A = Scan} (record { number = number; place = k; words = 0 }) (recordsScan bytes)
+    → _≡_ {A = Found} (record { number = number; place = k; words = 0 }) (recordsScan bytes)
 unfolding recordsScan recordsOf
 scan-faulted bytes count number k e f z = rw (rw e at f, ne-eqb number 0 z)
 
@@ -186,7 +202,7 @@ last bytes count o words number k g h = omega (arith, g .inside)
 
 pub scan-unended : (bytes : List ℕ) (count : ℕ) (o : Open) (words number k : ℕ) → Going bytes count o words number k
     → count ≤ k → count ≡ recordCount bytes → (innermost (blocksOf o) ≡ 0 → ⊥)
-    → _≡_ {A = Scan} (record { number = 7; place = k; words = 0 }) (recordsScan bytes)
+    → _≡_ {A = Found} (record { number = 7; place = k; words = 0 }) (recordsScan bytes)
 scan-unended bytes count o words number k g h e z =
     let l : count - k ≡ 0 = omega arith in
     let f = rw l at (g .fault) in
@@ -194,7 +210,7 @@ scan-unended bytes count o words number k g h e z =
 
 pub scan-done : (bytes : List ℕ) (count : ℕ) (o : Open) (words number k : ℕ) → Going bytes count o words number k
     → count ≤ k → count ≡ recordCount bytes → innermost (blocksOf o) ≡ 0
-    → _≡_ {A = Scan} (record { number = 0; place = 0; words = words }) (recordsScan bytes)
+    → _≡_ {A = Found} (record { number = 0; place = 0; words = words }) (recordsScan bytes)
 unfolding recordsScan recordsOf
 scan-done bytes count o words number k g h e z =
     let l : count - k ≡ 0 = omega arith in
@@ -202,3 +218,55 @@ scan-done bytes count o words number k g h e z =
     let n = rw l at (g .given) in
     let w : words ≡ wordCount [] (recordsFrom count 0 bytes) = omega arith in
     rw (w, ← e, f, z)
+
+-- a list of records with no fault has no place either
+pub clean : (rs : List Record) (blocks : List ℕ) (place : ℕ) → firstFault blocks place rs .number ≡ 0
+    → firstFault blocks place rs ≡ refusal 0 0
+clean [] blocks place h = pick (eqb (innermost blocks) 0) h
+  where
+    pick : (b : Bool) → cond b (refusal 0 0) (refusal 7 place) .number ≡ 0 → cond b (refusal 0 0) (refusal 7 place) ≡ refusal 0 0
+    pick true e = refl
+    pick false e = absurd (omega arith)
+clean (r ∷ rs) blocks place h =
+    pick (eqb (recordFault blocks r) 0) refl (firstFault (openAfter blocks (r .kind)) (suc place) rs)
+    (clean rs (openAfter blocks (r .kind)) (suc place)) h
+  where
+    pick : (b : Bool) → eqb (recordFault blocks r) 0 ≡ b → (f : Refusal) → (f .number ≡ 0 → f ≡ refusal 0 0)
+        → cond b f (refusal (recordFault blocks r) place) .number ≡ 0 → cond b f (refusal (recordFault blocks r) place) ≡ refusal 0 0
+    pick true t f k e = k e
+    pick false t f k e = absurd (eqb-false (recordFault blocks r) 0 t e)
+
+-- ---- refusals 1 and 8 around the records' own
+pub scan-length : (bytes : List ℕ) → badLength bytes ≡ true
+    → _≡_ {A = Found} (record { number = 1; place = 0; words = 0 }) (scriptScan bytes)
+unfolding scriptScan scriptRefusal
+scan-length bytes h = rw h
+
+module _ (bytes : List ℕ) (s : Found) (e : s ≡ recordsScan bytes) (h : badLength bytes ≡ false) where
+  number-is : s .number ≡ firstFault [] 0 (recordsOf bytes) .number
+  unfolding recordsScan
+  number-is = ap (λ (x : Found). x .number) e
+
+  pub words-are : s .number ≡ 0 → s .words ≡ wordsIn bytes
+  unfolding recordsScan
+  words-are z = ap (λ (x : Found). x .words) e ∙ (rw (sym number-is ∙ z))
+
+  pub scan-refused : (s .number ≡ 0 → ⊥) → s ≡ scriptScan bytes
+  unfolding recordsScan scriptScan scriptRefusal
+  scan-refused z =
+      let n : eqb (firstFault [] 0 (recordsOf bytes) .number) 0 ≡ false = rw number-is at (ne-eqb (s .number) 0 z) in
+      e ∙ (rw (h, n, n))
+
+  pub scan-long : s .number ≡ 0 → 1024 < s .words
+      → _≡_ {A = Found} (record { number = 8; place = recordCount bytes; words = 0 }) (scriptScan bytes)
+  unfolding scriptScan scriptRefusal
+  scan-long z l =
+      let w : tooManyWords bytes ≡ true = rw (words-are z) at (lt-ltb 1024 (s .words) l) in
+      rw (h, sym number-is ∙ z, w)
+
+  pub scan-whole : s .number ≡ 0 → s .words ≤ 1024 → s ≡ scriptScan bytes
+  unfolding recordsScan scriptScan scriptRefusal
+  scan-whole z l =
+      let w : tooManyWords bytes ≡ false = rw (words-are z) at (le-ltb 1024 (s .words) l) in
+      let f = clean (recordsOf bytes) [] 0 (sym number-is ∙ z) in
+      e ∙ (rw (h, f, w))

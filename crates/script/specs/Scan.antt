@@ -22,7 +22,7 @@ use Rattle.script.specs.Refusals.{
   Refusal,
 }
 use Rattle.script.specs.declared.Open.{Open}
-use Rattle.script.specs.declared.Scan.{Scan}
+use Rattle.script.specs.declared.Found.{Found}
 
 -- what a record shows by itself: 2, 3, 4, or 0
 unfoldable pub shapeFault : Record → ℕ
@@ -42,13 +42,13 @@ pub record Kept (o : Open) : Type 0 where
   pub sized : length (o .blocks) ≡ 16
 
 -- a refusal has no words
-abbrev pub scanned : Refusal → ℕ → Scan
+abbrev pub scanned : Refusal → ℕ → Found
 scanned f n = record { number = f .number; place = f .place; words = cond (eqb (f .number) 0) n 0 }
 
 -- refusals 2 to 7 of the records, or their words
-unfoldable pub recordsScan : List ℕ → Scan
+unfoldable pub recordsScan : List ℕ → Found
 recordsScan bytes = scanned (firstFault [] 0 (recordsOf bytes)) (wordsIn bytes)
 
 -- refusals 1 to 8, or the words
-unfoldable pub scriptScan : List ℕ → Scan
+unfoldable pub scriptScan : List ℕ → Found
 scriptScan bytes = scanned (scriptRefusal bytes) (wordsIn bytes)

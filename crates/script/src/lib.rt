@@ -17,7 +17,7 @@ pub struct Open {
 }
 
 // What a scan finds: a refusal with its place, or number 0 and how many words the script gives.
-pub struct Scan {
+pub struct Found {
     pub number: u32,
     pub place: u32,
     pub words: u32,
@@ -244,7 +244,7 @@ fn is_repeat(block: u8) -> u32
 }
 
 // Refusals 2 to 7, or how many words the records give.
-fn scan_records(script: &[u8], count: usize) -> Scan
+fn scan_records(script: &[u8], count: usize) -> Found
     requires { ⌜ (count ≤ 1024) × (count ≡ length (now script) / 12) ⌝ }
     ensures { λ r. ⌜ r ≡ recordsScan (now (script .entry)) ⌝ }
 {
@@ -285,22 +285,55 @@ fn scan_records(script: &[u8], count: usize) -> Scan
         k = k + 1;
     }
     if number != 0 {
-        return Scan {
+        return Found {
             number,
             place: k as u32,
             words: 0,
         };
     }
     if open.innermost() != 0 {
-        return Scan {
+        return Found {
             number: 7,
             place: k as u32,
             words: 0,
         };
     }
-    Scan {
+    Found {
         number: 0,
         place: 0,
         words,
     }
+}
+
+// Refusals 1 to 8, or how many words the script gives.
+pub fn scan(script: &[u8]) -> Found
+    ensures { λ r. ⌜ r ≡ scriptScan (now (script .entry)) ⌝ }
+{
+    let count = script.len() / 12;
+    if script.len() % 12 != 0 {
+        return Found {
+            number: 1,
+            place: 0,
+            words: 0,
+        };
+    }
+    if 1024 < count {
+        return Found {
+            number: 1,
+            place: 0,
+            words: 0,
+        };
+    }
+    let s = scan_records(script, count);
+    if s.number != 0 {
+        return s;
+    }
+    if 1024 < s.words {
+        return Found {
+            number: 8,
+            place: count as u32,
+            words: 0,
+        };
+    }
+    s
 }

@@ -9,8 +9,24 @@ use borrow.Author.Needs.{needs}
 use lib.Dec.{eqb}
 use lib.ListN.{getD}
 use Rattle.script.proofs.Scanning.{
-  at-most-one, depth-last, faulty, full-is-deep, further, Going, good, ninth-is-deep, not-deep, place-next, repeats-more,
-  scan-done, scan-faulted, scan-unended, shape-first, starts, walk-within, walks
+  at-most-one,
+  depth-last,
+  faulty,
+  full-is-deep,
+  further,
+  Going,
+  good,
+  ninth-is-deep,
+  not-deep,
+  place-next,
+  repeats-more,
+  scan-done,
+  scan-faulted,
+  scan-unended,
+  shape-first,
+  starts,
+  walk-within,
+  walks,
 }
 use Rattle.script.specs.Records.{recordsFrom}
 use Rattle.script.specs.Refusals.{firstFault, givesWord, refusal, repeatsIn}
@@ -62,11 +78,12 @@ loop-holds c = (omega arith, refl, omega arith, refl)
 
 array-read-is-repeat : tie.Need-array-read-is-repeat Inv-loop μ-loop Inv-scan μ-scan
 array-read-is-repeat c =
-    omega
-    (arith,
-    c .before .before .walk .ensures,
-    walk-within (eqb (c .before .before .before .before .before .before .before .before .before .before .read .result .kind) 4) (c .before .before .before .before .before .before .before .before .before .before .before .before .scan .«open» .depth),
-    c .before .before .before .before .before .before .before .before .before .before .before .before .scan .inv .kept .deep)
+    omega (
+      arith,
+      c .before .before .walk .ensures,
+      walk-within (eqb (c .before .before .before .before .before .before .before .before .before .before .read .result .kind) 4) (c .before .before .before .before .before .before .before .before .before .before .before .before .scan .«open» .depth),
+      c .before .before .before .before .before .before .before .before .before .before .before .before .scan .inv .kept .deep,
+    )
 
 is-repeat-requires : tie.Need-is-repeat-requires Inv-loop μ-loop Inv-scan μ-scan
 is-repeat-requires c κs = search needs
@@ -83,28 +100,31 @@ loop-less c = omega arith
 loop-again : tie.Need-loop-again Inv-loop μ-loop Inv-scan μ-scan
 loop-again c =
     let one = at-most-one (eqb (getD (c .before .before .before .before .before .before .before .before .before .before .before .before .before .before .scan .«open» .blocks) (c .before .before .before .loop .b) 0) 4) in
-    let i = c .before .before .before .loop .inv in
-    (omega arith,
-    (rw (c .before .is-repeat .ensures, i .1) (sym (repeats-more (c .before .before .before .loop .b) (c .before .before .before .before .before .before .before .before .before .before .before .before .before .before .scan .«open» .blocks)))),
-    omega (arith, c .before .is-repeat .ensures, one, i .2, c .if4 .left),
-    i .3)
+    let i = c .before .before .before .loop .inv in (
+      omega arith,
+      (rw (c .before .is-repeat .ensures, i .1) (sym (repeats-more (c .before .before .before .loop .b) (c .before .before .before .before .before .before .before .before .before .before .before .before .before .before .scan .«open» .blocks)))),
+      omega (arith, c .before .is-repeat .ensures, one, i .2, c .if4 .left),
+      i .3,
+    )
 
 gives-requires : tie.Need-gives-requires Inv-loop μ-loop Inv-scan μ-scan
 gives-requires c κs = c .before .before .before .before .before .before .before .before .before .before .before .before .scan .inv .kept
 
 add-words : tie.Need-add-words Inv-loop μ-loop Inv-scan μ-scan
 add-words c =
-    omega
-    (arith,
-    c .gives .ensures,
-    at-most-one (givesWord (blocksOf (c .before .before .before .before .before .before .before .before .before .before .before .before .before .scan .«open»)) (c .before .before .before .before .before .before .before .before .before .before .before .read .result .kind)),
-    c .before .before .before .before .before .before .before .before .before .before .before .before .before .scan .inv .few,
-    c .before .before .before .before .before .before .before .before .before .before .before .before .before .before .before .before .pre .0)
+    omega (
+      arith,
+      c .gives .ensures,
+      at-most-one (givesWord (blocksOf (c .before .before .before .before .before .before .before .before .before .before .before .before .before .scan .«open»)) (c .before .before .before .before .before .before .before .before .before .before .before .read .result .kind)),
+      c .before .before .before .before .before .before .before .before .before .before .before .before .before .scan .inv .few,
+      c .before .before .before .before .before .before .before .before .before .before .before .before .before .before .before .before .pre .0,
+    )
 
 after-requires : tie.Need-after-requires Inv-loop μ-loop Inv-scan μ-scan
-after-requires c κs =
-    (c .before .before .before .before .before .before .before .before .before .before .before .before .before .scan .inv .kept,
-    (sym (c .before .before .before .before .before .before .is-full .ensures) ∙ c .before .before .before .before .before .if3 .left, sym (c .before .before .before .before .before .before .before .before .misplaced .ensures) ∙ c .before .before .before .before .before .before .before .if2 .left))
+after-requires c κs = (
+  c .before .before .before .before .before .before .before .before .before .before .before .before .before .scan .inv .kept,
+  (sym (c .before .before .before .before .before .before .is-full .ensures) ∙ c .before .before .before .before .before .if3 .left, sym (c .before .before .before .before .before .before .before .before .misplaced .ensures) ∙ c .before .before .before .before .before .before .before .if2 .left),
+)
 
 add-k : tie.Need-add-k Inv-loop μ-loop Inv-scan μ-scan
 add-k c = omega arith
@@ -120,7 +140,7 @@ scan-again c =
     let g = c .before .before .before .before .before .before .before .before .before .before .before .before .before .before .scan .inv in
     let e : c .before .before .before .loop .b ≡ c .before .before .before .before .walk .result = omega arith in
     let fits : repeatsIn (stackOf (cond (eqb (r .kind) 4) (o .depth) 0) (o .blocks)) < 8 =
-        rw (c .before .before .before .before .walk .ensures) at (rw e at (rw (i .1) at (i .2))) in
+    rw (c .before .before .before .before .walk .ensures) at (rw e at (rw (i .1) at (i .2))) in
     let deep = not-deep o (r .kind) (sym (c .before .before .before .before .before .before .before .is-full .ensures) ∙ c .before .before .before .before .before .before .if3 .left) fits in
     let z = good o r (sym (c .before .before .before .before .before .before .before .before .before .before .before .shape-fault .ensures) ∙ c .before .before .before .before .before .before .before .before .before .before .if1 .left) (sym (c .before .before .before .before .before .before .before .before .before .misplaced .ensures) ∙ c .before .before .before .before .before .before .before .before .if2 .left) deep in
     rw (c .before .gives .ensures)
@@ -167,7 +187,7 @@ ended c =
     let b = w .10 .b in
     let four = walks (r .kind) (o .depth) b (rw (w .9 .ensures) at (w .11 .taken)) in
     let eight : repeatsIn (stackOf (b + 1) (o .blocks)) ≡ 8 =
-        repeats-more b (o .blocks) ∙ (rw (← (w .10 .inv .1), ← (w .12 .ensures)) (w .13 .taken)) in
+    repeats-more b (o .blocks) ∙ (rw (← (w .10 .inv .1), ← (w .12 .ensures)) (w .13 .taken)) in
     let l : b + 1 ≤ o .depth = omega (arith, w .11 .taken, w .9 .ensures, walk-within (eqb (r .kind) 4) (o .depth)) in
     let t = ninth-is-deep o (r .kind) (b + 1) four l eight in
     let f = faulty _ _ o _ _ _ 6 r g (w .0 .taken) (w .1 .ensures) (depth-last o r e m t) (λ q. omega arith) in

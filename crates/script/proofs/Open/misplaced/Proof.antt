@@ -13,16 +13,18 @@ returns : tie.Need-returns
 returns c = rw (c .if1 .taken, c .before .innermost .ensures) (sym (or-false _))
 
 returns-2 : tie.Need-returns-2
-returns-2 c = simp
-    (← (c .before .before .innermost .ensures),
-    ne-eqb _ _ (c .before .if1 .left),
-    eq-eqb _ _ (c .if2 .taken))
+returns-2 c = simp (
+  ← (c .before .before .innermost .ensures),
+  ne-eqb _ _ (c .before .if1 .left),
+  eq-eqb _ _ (c .if2 .taken),
+)
 
 returns-3 : tie.Need-returns-3
-returns-3 c = simp
-    (← (c .before .before .innermost .ensures),
-    ne-eqb _ _ (c .before .if1 .left),
-    ne-eqb _ _ (c .if2 .left))
+returns-3 c = simp (
+  ← (c .before .before .innermost .ensures),
+  ne-eqb _ _ (c .before .if1 .left),
+  ne-eqb _ _ (c .if2 .left),
+)
 
 pub misplaced-spec : {M : Type 1} → statement M
 misplaced-spec = tie.close (tie.spec innermost-requires returns returns-2 returns-3)
