@@ -4,7 +4,7 @@ use Prim.Native.Nat.{ℕ, zero, suc, _≤_, _<_}
 use mathlib.Core.Path.{_≡_, refl, sym, ap, _∙_}
 use mathlib.Core.Bool.{Bool, true, false, cond, true≢false, false≢true, _&&_, _||_}
 use mathlib.Core.List.{List, [], _∷_}
-use borrow.Author.Tests.{eqb-true, eqb-false, leb-true, leb-false, not-false}
+use borrow.Author.Tests.{eqb-true, eqb-false, leb-true, leb-false, ltb-false, not-false}
 use lib.Dec.{eqb, leb}
 use lib.ListN.{length}
 use native.Mathlib.Omega.{arith}
@@ -12,7 +12,8 @@ use Rattle.record.specs.declared.Record.{Record}
 use Rattle.width.specs.Width.{fitsWidth, isWidth}
 use Rattle.script.specs.Nested.{Body, done, write, read, delay, repeat, if, ifElse, Reading, top, ended, elsed, broken, before, repeated, elseTested, tested, readingOf, bodyIn}
 use Rattle.script.specs.Fields.{countFields, noFields, readFields, valueFields}
-use Rattle.script.specs.Refusals.{Refusal, badFields, badKind, firstFault, goodFields, misplaced, openAfter, recordFault, refusal, repeatsIn, tooDeep, wrongMark}
+use Rattle.script.specs.Records.{recordCount, recordsOf}
+use Rattle.script.specs.Refusals.{Refusal, badFields, badKind, badLength, firstFault, goodFields, misplaced, openAfter, recordFault, refusal, repeatsIn, scriptRefusal, tooDeep, tooManyWords, wordsIn, wrongMark}
 
 abbrev pub scriptRecord : (kind width port value : ℕ) → Record
 scriptRecord k w p v = record { mark = 0xA55A; kind = k; width = w; port = p; target = 0; value = v }
@@ -317,3 +318,26 @@ reading-flat rs h = whole-of rs h .is-flat
 -- and its body keeps the widths, values and depths that the scan made sure of
 pub reading-good : (rs : List Record) → firstFault [] 0 rs .number ≡ 0 → Good 0 (bodyIn (readingOf rs))
 reading-good rs h = whole-of rs h .is-good
+
+-- ---- the same of a script
+settles :
+    (a t b : Bool) (f : Refusal) (place : ℕ) → (t ≡ false → f .number ≡ 0 → ⊥) → (t ≡ true → f .number ≡ 0)
+    → cond a (refusal 1 0) (cond t (cond b (refusal 8 place) (refusal 0 0)) f) .number ≡ 0
+    → (a ≡ false) × (f .number ≡ 0) × (b ≡ false)
+settles true t b f place n y h = absurd (omega arith)
+settles false false b f place n y h = absurd (n refl h)
+settles false true true f place n y h = absurd (omega arith)
+settles false true false f place n y h = (refl, y refl, refl)
+
+pub record Accepts (bytes : List ℕ) : Type 0 where
+  pub length-good : badLength bytes ≡ false
+  pub faultless : firstFault [] 0 (recordsOf bytes) .number ≡ 0
+  pub few-words : wordsIn bytes ≤ 1024
+
+pub accepts : (bytes : List ℕ) → scriptRefusal bytes .number ≡ 0 → Accepts bytes
+unfolding scriptRefusal
+accepts bytes h =
+    let f = firstFault [] 0 (recordsOf bytes) in
+    let s = settles (badLength bytes) (eqb (f .number) 0) (tooManyWords bytes) f (recordCount bytes)
+    (eqb-false (f .number) 0) (eqb-true (f .number) 0) h in
+    record { length-good = s .0; faultless = s .1; few-words = ltb-false 1024 (wordsIn bytes) (s .2) }
