@@ -1,2 +1,4 @@
+pub mod Flat
+pub mod Loops
 pub mod Scanning
 pub mod Stack
