@@ -1,94 +1,85 @@
 -- The compiler's walk over flat records: the look-ahead gives the place to which a block leads, and the words of the walk
 -- are those of the nested reading. Assumes nothing.
-use Prim.Native.Nat.{ℕ, suc, _+_, _*_, _/_, _%_, _≤_, _<_}
-use mathlib.Core.Path.{_≡_, refl, ap, _∙_}
-use mathlib.Core.Bool.{Bool, true, false, cond}
+use Prim.Native.Nat.{ℕ, suc, _+_, _-_, _≤_}
+use mathlib.Core.Path.{_≡_, refl, sym, ap, _∙_}
+use mathlib.Core.Bool.{Bool, true, false, cond, _||_, and-false}
 use mathlib.Core.List.{List, [], _∷_}
-use borrow.Author.Tests.{eq-eqb, ne-eqb}
+use borrow.Author.Tests.{ne-eqb}
 use lib.Dec.{eqb}
 use lib.ListN.{length}
 use native.Mathlib.Omega.{arith}
 use Rattle.record.specs.declared.Record.{Record}
 use Rattle.script.specs.Nested.{Body, done, write, read, delay, repeat, if, ifElse, readingOf, bodyIn, scriptBody}
 use Rattle.script.specs.Records.{recordsOf}
-use Rattle.script.specs.Refusals.{firstFault, innermost, outer, scriptRefusal}
+use Rattle.script.specs.Refusals.{firstFault, scriptRefusal}
 use Rattle.script.proofs.Flat.{accepts, flat, elseRecord, endRecord, reading-flat}
+use Rattle.compiler.specs.Emit.{ahead, depthAfter, emitFlat, stops}
 use Rattle.compiler.specs.Words.{behind, emit, halt, word, wordsOf}
 
--- the place to which a block leads whose records follow. The first number is of the blocks opened since: 1 none, then twice
--- it plus 1 for a repeat, twice it for an if
-abbrev pub ahead : ℕ → ℕ → List Record → ℕ
-ahead inner place [] = place
-ahead inner place (r ∷ rs) =
-    cond (eqb (r .kind) 4) (ahead (inner * 2 + 1) (suc place) rs)
-    (cond (eqb (r .kind) 5) (ahead (inner * 2) (suc place) rs)
-    (cond (eqb (r .kind) 6) (cond (eqb inner 1) (suc place) (ahead inner (suc place) rs))
-    (cond (eqb (r .kind) 7)
-    (cond (eqb inner 1) place
-    (cond (eqb (inner % 2) 1) (ahead (inner / 2) (suc place) rs) (ahead (inner / 2) place rs)))
-    (ahead inner (suc place) rs))))
+-- one place further, all of a body is
+behind-suc : (b : Body) (at : ℕ) → behind (suc at) b ≡ suc (behind at b)
+behind-suc done at = refl
+behind-suc (write p w v rest) at = behind-suc rest (suc at)
+behind-suc (read p w rest) at = behind-suc rest (suc at)
+behind-suc (delay n rest) at = behind-suc rest (suc at)
+behind-suc (repeat n b rest) at =
+    ap (λ (x : ℕ). behind (suc x) rest) (behind-suc b (suc at)) ∙ behind-suc rest (suc (behind (suc at) b))
+behind-suc (if p w m b rest) at =
+    ap (λ (x : ℕ). behind x rest) (behind-suc b (suc at)) ∙ behind-suc rest (behind (suc at) b)
+behind-suc (ifElse p w m b c rest) at =
+    ap (λ (x : ℕ). behind (behind (suc x) c) rest) (behind-suc b (suc at))
+    ∙ ap (λ (x : ℕ). behind x rest) (behind-suc c (suc (behind (suc at) b)))
+    ∙ behind-suc rest (behind (suc (behind (suc at) b)) c)
 
--- the words of the records that follow. The frames are the open blocks, innermost first: 0 an if, else the place of a
--- loop's body
-abbrev pub emitFlat : List ℕ → ℕ → List Record → List Record
-emitFlat frames place [] = halt ∷ []
-emitFlat frames place (r ∷ rs) =
-    cond (eqb (r .kind) 1) (word 1 (r .width) (r .port) 0 (r .value) ∷ emitFlat frames (suc place) rs)
-    (cond (eqb (r .kind) 2) (word 2 (r .width) (r .port) 0 0 ∷ emitFlat frames (suc place) rs)
-    (cond (eqb (r .kind) 3) (word 3 0 0 0 (r .value) ∷ emitFlat frames (suc place) rs)
-    (cond (eqb (r .kind) 4)
-    (word 4 0 0 (suc (ahead 1 (suc place) rs)) (r .value) ∷ emitFlat (suc place ∷ frames) (suc place) rs)
-    (cond (eqb (r .kind) 5)
-    (word 6 (r .width) (r .port) (ahead 1 (suc place) rs) (r .value) ∷ emitFlat (0 ∷ frames) (suc place) rs)
-    (cond (eqb (r .kind) 6) (word 7 0 0 (ahead 1 (suc place) rs) 0 ∷ emitFlat frames (suc place) rs)
-    (cond (eqb (innermost frames) 0) (emitFlat (outer frames) place rs)
-    (word 5 0 0 (innermost frames) 0 ∷ emitFlat (outer frames) (suc place) rs)))))))
+-- ---- an end and an else of a block opened since
+end-block : (depth place : ℕ) (tl : List Record)
+    → ahead (suc depth) place (endRecord ∷ tl) ≡ ahead depth (suc place) tl
+end-block depth place tl =
+    let a : suc depth - 1 ≡ depth = omega arith in
+    rw (ne-eqb (suc depth) 0 (omega arith), a)
 
--- ---- an end behind a repeat, an end and an else behind an if
-end-repeat : (inner place : ℕ) (tl : List Record) → 0 < inner
-    → ahead (inner * 2 + 1) place (endRecord ∷ tl) ≡ ahead inner (suc place) tl
-end-repeat inner place tl h =
-    let a : (inner * 2 + 1) / 2 ≡ inner = omega arith in
-    rw (ne-eqb (inner * 2 + 1) 1 (omega arith), eq-eqb ((inner * 2 + 1) % 2) 1 (omega arith), a)
+else-block : (depth place : ℕ) (tl : List Record)
+    → ahead (suc depth) place (elseRecord ∷ tl) ≡ ahead (suc depth) (suc place) tl
+else-block depth place tl = rw (ne-eqb (suc depth) 0 (omega arith))
 
-end-if : (inner place : ℕ) (tl : List Record) → 0 < inner
-    → ahead (inner * 2) place (endRecord ∷ tl) ≡ ahead inner place tl
-end-if inner place tl h =
-    let a : (inner * 2) / 2 ≡ inner = omega arith in
-    rw (ne-eqb (inner * 2) 1 (omega arith), ne-eqb ((inner * 2) % 2) 1 (omega arith), a)
-
-else-if : (inner place : ℕ) (tl : List Record) → 0 < inner
-    → ahead (inner * 2) place (elseRecord ∷ tl) ≡ ahead (inner * 2) (suc place) tl
-else-if inner place tl h = rw (ne-eqb (inner * 2) 1 (omega arith))
+-- a record that opens no block and closes none, and one that opens one, whatever the depth
+plain : (depth kind : ℕ) → (eqb kind 6 || eqb kind 7) ≡ false → stops depth kind ≡ false
+plain depth kind h = rw h (and-false (eqb depth 0))
 
 -- the look-ahead passes over a body
-pub ahead-flat : (b : Body) (inner at : ℕ) (tl : List Record) → 0 < inner
-    → ahead inner at (flat b tl) ≡ ahead inner (behind at b) tl
-ahead-flat done inner at tl h = refl
-ahead-flat (write p w v rest) inner at tl h = ahead-flat rest inner (suc at) tl h
-ahead-flat (read p w rest) inner at tl h = ahead-flat rest inner (suc at) tl h
-ahead-flat (delay n rest) inner at tl h = ahead-flat rest inner (suc at) tl h
-ahead-flat (repeat n b rest) inner at tl h =
-    ahead-flat b (inner * 2 + 1) (suc at) (endRecord ∷ flat rest tl) (omega arith)
-    ∙ end-repeat inner (behind (suc at) b) (flat rest tl) h
-    ∙ ahead-flat rest inner (suc (behind (suc at) b)) tl h
-ahead-flat (if p w m b rest) inner at tl h =
-    ahead-flat b (inner * 2) (suc at) (endRecord ∷ flat rest tl) (omega arith)
-    ∙ end-if inner (behind (suc at) b) (flat rest tl) h
-    ∙ ahead-flat rest inner (behind (suc at) b) tl h
-ahead-flat (ifElse p w m b c rest) inner at tl h =
-    ahead-flat b (inner * 2) (suc at) (elseRecord ∷ flat c (endRecord ∷ flat rest tl)) (omega arith)
-    ∙ else-if inner (behind (suc at) b) (flat c (endRecord ∷ flat rest tl)) h
-    ∙ ahead-flat c (inner * 2) (suc (behind (suc at) b)) (endRecord ∷ flat rest tl) (omega arith)
-    ∙ end-if inner (behind (suc (behind (suc at) b)) c) (flat rest tl) h
-    ∙ ahead-flat rest inner (behind (suc (behind (suc at) b)) c) tl h
+pub ahead-flat : (b : Body) (depth at : ℕ) (tl : List Record)
+    → ahead depth at (flat b tl) ≡ ahead depth (behind at b) tl
+ahead-flat done depth at tl = refl
+ahead-flat (write p w v rest) depth at tl = rw (plain depth 1 refl) (ahead-flat rest depth (suc at) tl)
+ahead-flat (read p w rest) depth at tl = rw (plain depth 2 refl) (ahead-flat rest depth (suc at) tl)
+ahead-flat (delay n rest) depth at tl = rw (plain depth 3 refl) (ahead-flat rest depth (suc at) tl)
+ahead-flat (repeat n b rest) depth at tl =
+    rw (plain depth 4 refl)
+    (ahead-flat b (suc depth) (suc at) (endRecord ∷ flat rest tl)
+    ∙ end-block depth (behind (suc at) b) (flat rest tl)
+    ∙ ahead-flat rest depth (suc (behind (suc at) b)) tl)
+ahead-flat (if p w m b rest) depth at tl =
+    rw (plain depth 5 refl)
+    (ahead-flat b (suc depth) at (endRecord ∷ flat rest tl)
+    ∙ end-block depth (behind at b) (flat rest tl)
+    ∙ ap (λ (x : ℕ). ahead depth x (flat rest tl)) (sym (behind-suc b at))
+    ∙ ahead-flat rest depth (behind (suc at) b) tl)
+ahead-flat (ifElse p w m b c rest) depth at tl =
+    rw (plain depth 5 refl)
+    (ahead-flat b (suc depth) at (elseRecord ∷ flat c (endRecord ∷ flat rest tl))
+    ∙ else-block depth (behind at b) (flat c (endRecord ∷ flat rest tl))
+    ∙ ahead-flat c (suc depth) (suc (behind at b)) (endRecord ∷ flat rest tl)
+    ∙ end-block depth (behind (suc (behind at b)) c) (flat rest tl)
+    ∙ ap (λ (x : ℕ). ahead depth x (flat rest tl))
+    (sym (behind-suc c (suc (behind at b))) ∙ ap (λ (x : ℕ). behind (suc x) c) (sym (behind-suc b at)))
+    ∙ ahead-flat rest depth (behind (suc (behind (suc at) b)) c) tl)
 
 -- ---- where a block leads, looked at from its first record
-to-end : (at : ℕ) (b : Body) (tl : List Record) → ahead 1 at (flat b (endRecord ∷ tl)) ≡ behind at b
-to-end at b tl = ahead-flat b 1 at (endRecord ∷ tl) (omega arith)
+to-end : (at : ℕ) (b : Body) (tl : List Record) → ahead 0 at (flat b (endRecord ∷ tl)) ≡ behind at b
+to-end at b tl = ahead-flat b 0 at (endRecord ∷ tl)
 
-to-else : (at : ℕ) (b : Body) (tl : List Record) → ahead 1 at (flat b (elseRecord ∷ tl)) ≡ suc (behind at b)
-to-else at b tl = ahead-flat b 1 at (elseRecord ∷ tl) (omega arith)
+to-else : (at : ℕ) (b : Body) (tl : List Record) → ahead 0 at (flat b (elseRecord ∷ tl)) ≡ suc (behind at b)
+to-else at b tl = ahead-flat b 0 at (elseRecord ∷ tl)
 
 loop-end : (frames : List ℕ) (at place : ℕ) (tl : List Record)
     → emitFlat (suc at ∷ frames) place (endRecord ∷ tl) ≡ word 5 0 0 (suc at) 0 ∷ emitFlat frames (suc place) tl
@@ -135,22 +126,15 @@ unfolding wordsOf scriptBody
 emit-script script h = emit-records (recordsOf script) (accepts script h .faultless)
 
 -- a place looked ahead to is at most as many places on as there are records
-either : (t : Bool) (a b n : ℕ) → a ≤ n → b ≤ n → cond t a b ≤ n
-either true a b n h k = h
-either false a b n h k = k
-
-pub ahead-at-most : (rs : List Record) (inner place : ℕ) → ahead inner place rs ≤ place + length rs
-ahead-at-most [] inner place = omega arith
-ahead-at-most (r ∷ rs) inner place =
-    let n = place + suc (length rs) in
-    let i1 = ahead-at-most rs (inner * 2 + 1) (suc place) in
-    let i2 = ahead-at-most rs (inner * 2) (suc place) in
-    let i3 = ahead-at-most rs inner (suc place) in
-    let i4 = ahead-at-most rs (inner / 2) (suc place) in
-    let i5 = ahead-at-most rs (inner / 2) place in
-    either (eqb (r .kind) 4) _ _ n (omega arith)
-    (either (eqb (r .kind) 5) _ _ n (omega arith)
-    (either (eqb (r .kind) 6) _ _ n (either (eqb inner 1) _ _ n (omega arith) (omega arith))
-    (either (eqb (r .kind) 7) _ _ n
-    (either (eqb inner 1) _ _ n (omega arith) (either (eqb (inner % 2) 1) _ _ n (omega arith) (omega arith)))
-    (omega arith))))
+pub ahead-at-most : (rs : List Record) (depth place : ℕ) → ahead depth place rs ≤ place + length rs
+ahead-at-most [] depth place = omega arith
+ahead-at-most (r ∷ rs) depth place =
+    pick (stops depth (r .kind)) (eqb (r .kind) 6) (eqb (r .kind) 5)
+    (ahead-at-most rs (depthAfter depth (r .kind)) (cond (eqb (r .kind) 5) place (suc place)))
+  where
+    pick : (s e i : Bool) → ahead (depthAfter depth (r .kind)) (cond i place (suc place)) rs ≤ cond i place (suc place) + length rs
+        → cond s (cond e (suc place) place) (ahead (depthAfter depth (r .kind)) (cond i place (suc place)) rs) ≤ place + suc (length rs)
+    pick true true i h = omega arith
+    pick true false i h = omega arith
+    pick false e true h = omega arith
+    pick false e false h = omega arith

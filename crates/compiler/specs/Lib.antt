@@ -1,2 +1,3 @@
 pub mod Compile
+pub mod Emit
 pub mod Words

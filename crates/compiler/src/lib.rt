@@ -6,3 +6,9 @@ pub struct Compiled {
     pub place: u32,
     pub words: u32,
 }
+
+// The open blocks, innermost last: 0 an if, else the place of a loop's body.
+pub struct Frames {
+    pub starts: [u32; 16],
+    pub depth: usize,
+}
