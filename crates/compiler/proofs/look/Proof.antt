@@ -1,0 +1,89 @@
+-- `compiler::look` meets its contract. Assumes nothing.
+use Prim.Native.Nat.{_+_, _-_, _≤_}
+use mathlib.Core.Path.{_≡_, refl, sym, ap, _∙_}
+use native.Mathlib.Omega.{arith}
+use borrow.Author.Needs.{needs}
+use lib.Dec.{eqb}
+use Rattle.script.specs.Records.{recordsFrom}
+use Rattle.compiler.specs.Emit.{ahead}
+use Rattle.compiler.proofs.Walk.{behind-last, look-goes, look-stops, near, shallow}
+use Rattle.compiler.proofs.look.Statement.{statement}
+use Rattle.compiler.proofs.look.Tie as tie
+
+abbrev Inv-loop : tie.InvT-loop
+Inv-loop script count from place depth₀ at₀ k₀ depth at k = 
+    (k ≤ count) × (from ≤ k) × (depth ≤ k - from) × (at ≤ place + (k - from))
+    × (ahead 0 place (recordsFrom (count - from) from script) ≡ ahead depth at (recordsFrom (count - k) k script))
+
+abbrev μ-loop : tie.MeasureT-loop
+μ-loop script count from place depth₀ at₀ k₀ depth at k = count - k
+
+loop-holds : tie.Need-loop-holds Inv-loop μ-loop
+loop-holds c = (omega arith, omega arith, omega arith, omega arith, refl)
+
+mul-read : tie.Need-mul-read Inv-loop μ-loop
+mul-read c = omega arith
+
+read-requires : tie.Need-read-requires Inv-loop μ-loop
+read-requires c κs = omega arith
+
+stops-requires : tie.Need-stops-requires Inv-loop μ-loop
+stops-requires c κs = search needs
+
+stopped-requires : tie.Need-stopped-requires Inv-loop μ-loop
+stopped-requires c κs = omega (arith, c .before .before .before .before .loop .inv)
+
+returns : tie.Need-returns Inv-loop μ-loop
+returns c = 
+    c .stopped .ensures
+    ∙ sym
+    (c .before .before .before .before .before .loop .inv .4
+    ∙ look-stops _ _ _ _ _ _ (c .before .before .before .before .loop-test .taken) (c .before .before .before .read .ensures) (sym (c .before .before .stops .ensures) ∙ c .before .if1 .taken))
+
+counted-requires : tie.Need-counted-requires Inv-loop μ-loop
+counted-requires c κs = omega (arith, c .before .before .before .before .loop .inv)
+
+depth-after-requires : tie.Need-depth-after-requires Inv-loop μ-loop
+depth-after-requires c κs = omega (arith, c .before .before .before .before .before .loop .inv)
+
+add-k : tie.Need-add-k Inv-loop μ-loop
+add-k c = omega arith
+
+loop-less : tie.Need-loop-less Inv-loop μ-loop
+loop-less c = omega arith
+
+loop-again : tie.Need-loop-again Inv-loop μ-loop
+loop-again c = 
+    let i = c .before .before .before .before .before .before .loop .inv in
+    let d = shallow (c .before .before .before .before .before .before .loop .depth) (c .before .before .before .before .read .result .kind) in
+    let a = near (eqb (c .before .before .before .before .read .result .kind) 5) (c .before .before .before .before .before .before .loop .at) in
+    (omega arith,
+    omega arith,
+    omega (arith, c .depth-after .ensures, d, i),
+    omega (arith, c .before .counted .ensures, a, i),
+    i .4
+    ∙ (rw (c .depth-after .ensures, c .before .counted .ensures)
+    (look-goes _ _ _ _ _ _ (c .before .before .before .before .before .loop-test .taken) (c .before .before .before .before .read .ensures) (sym (c .before .before .before .stops .ensures) ∙ c .before .before .if1 .left))))
+
+returns-2 : tie.Need-returns-2 Inv-loop μ-loop
+returns-2 c = 
+    sym (c .before .loop .inv .4 ∙ ap (ahead (c .before .loop .depth) (c .before .loop .at)) (behind-last _ _ _ (c .loop-test .left)))
+
+pub look-spec : {M : Type 1} → statement M
+look-spec =
+    tie.close
+    (tie.spec
+    Inv-loop
+    μ-loop
+    loop-holds
+    mul-read
+    read-requires
+    stops-requires
+    stopped-requires
+    returns
+    counted-requires
+    depth-after-requires
+    add-k
+    loop-less
+    loop-again
+    returns-2)
