@@ -1,3 +1,5 @@
 pub mod Ahead
 pub mod Places
 pub mod Walk
+pub mod Image
+pub mod Emitting

@@ -5,7 +5,8 @@ ghost use mathlib.Core.Bool.{false, cond, _||_};
 ghost use mathlib.Core.List.{_∷_, _++_};
 ghost use Prim.Native.Nat.{suc, _+_, _*_, _-_, _≤_, _<_, _/_};
 ghost use lib.Dec.{eqb};
-ghost use lib.ListN.{length, drop};
+ghost use lib.ListN.{length, take, drop};
+ghost use Rattle.record.specs.Record.{bytesOf};
 ghost use Rattle.script.specs.Records.{recordsFrom, recordsOf};
 ghost use Rattle.script.specs.Refusals.{scriptRefusal, innermost};
 ghost use Rattle.compiler.specs.Compile.{compiled, imageAfter};
@@ -217,5 +218,76 @@ impl Frames {
             return self;
         }
         self
+    }
+}
+
+// ---- the image
+
+// Writes a word into the part of the image that starts at the word's offset.
+fn put(image: &mut [u8], place: u32, w: Record)
+    requires { ⌜ (12 * place + 12 ≤ length (now image)) × (place ≤ 1024) ⌝ }
+    ensures { λ _. ⌜ now (image .exit) ≡ take (12 * place) (now (image .entry)) ++ (bytesOf w ++ drop 12 (drop (12 * place) (now (image .entry)))) ⌝ }
+{
+    let at = 12 * index(place);
+    record::write(&mut image[at..], w);
+}
+
+fn index(place: u32) -> usize
+    ensures { λ r. ⌜ r ≡ place ⌝ }
+{
+    place as usize
+}
+
+// Writes the words of a script that is accepted.
+fn emit(script: &[u8], count: usize, image: &mut [u8])
+    requires { ⌜ (count ≡ length (now script) / 12) × (scriptRefusal (now script) .number ≡ 0) ⌝ }
+    requires { ⌜ 12 * length (wordsOf (now script)) ≤ length (now image) ⌝ }
+    ensures { λ _. ⌜ now (image .exit) ≡ imageBytes (wordsOf (now (script .entry))) ++ drop (12 * length (wordsOf (now (script .entry)))) (now (image .entry)) ⌝ }
+{
+    let mut frames = Frames::none();
+    let mut place: u32 = 0;
+    let mut k: usize = 0;
+    while k < count {
+        let r = record::read(script, 12 * k);
+        let frame = frames.innermost();
+        if gives(frame, r.kind) {
+            let w = word_of(script, count, k, place, frame, r);
+            put(image, place, w);
+            frames = frames.after(place, r.kind);
+            place = place + 1;
+            k = k + 1;
+        } else {
+            frames = frames.after(place, r.kind);
+            k = k + 1;
+        }
+    }
+    put(image, place, word(8, 0, 0, 0, 0));
+}
+
+// The compiler. No byte of the image is written before the script is accepted and its words fit.
+pub fn compile(script: &[u8], image: &mut [u8]) -> Compiled
+    ensures { λ r. ⌜ (r ≡ compiled (now (script .entry)) (now (image .entry))) × (now (image .exit) ≡ imageAfter (now (script .entry)) (now (image .entry))) ⌝ }
+{
+    let found = script::scan(script);
+    let count = script.len() / 12;
+    if found.number != 0 {
+        return Compiled {
+            refusal: found.number,
+            place: found.place,
+            words: 0,
+        };
+    }
+    if image.len() < 12 * index(found.words) {
+        return Compiled {
+            refusal: 9,
+            place: (count % 4096) as u32,
+            words: 0,
+        };
+    }
+    emit(script, count, image);
+    Compiled {
+        refusal: 0,
+        place: 0,
+        words: found.words,
     }
 }
