@@ -14,8 +14,22 @@ use Rattle.record.specs.declared.Record.{Record}
 use Rattle.script.specs.Records.{recordCount, recordsFrom, recordsOf}
 use Rattle.script.specs.Refusals.{innermost, outer, scriptRefusal}
 use Rattle.script.proofs.Flat.{
-  Accepted, accepted, accepts, Block, delays, elses, ends, looped, numbers, over, reads, repeats, tests, unelsed, withElse,
-  writes
+  Accepted,
+  accepted,
+  accepts,
+  Block,
+  delays,
+  elses,
+  ends,
+  looped,
+  numbers,
+  over,
+  reads,
+  repeats,
+  tests,
+  unelsed,
+  withElse,
+  writes,
 }
 use Rattle.script.proofs.Scanning.{length-stack}
 use Rattle.compiler.specs.Emit.{ahead, depthAfter, emitFlat, framesAfter, framesOf, gives, Held, wordFor}
@@ -106,12 +120,13 @@ module _ (script lent image : List ℕ) (count : ℕ) (f : Frames) (place k : �
   pub has-room : place + 1 ≤ length (wordsOf script)
   has-room =
       let rest = emitFlat (framesOf f) place (recordsFrom (count - k) k script) in
-      omega
-      (arith,
-      some-word (recordsFrom (count - k) k script) (framesOf f) place,
-      length-append (g .words) rest,
-      ap length (g .whole),
-      g .many)
+      omega (
+        arith,
+        some-word (recordsFrom (count - k) k script) (framesOf f) place,
+        length-append (g .words) rest,
+        ap length (g .whole),
+        g .many,
+      )
 
   pub few : scriptRefusal script .number ≡ 0 → place ≤ 1024
   few h = omega (arith, has-room, count-words script h, accepts script h .few-words)
@@ -189,9 +204,9 @@ module _ (script lent image : List ℕ) (count : ℕ) (f : Frames) (place k : �
       → now ≡ imageBytes (wordsOf script) ++ drop (12 * length (wordsOf script)) lent
   completes now h i =
       let e : g .words ++ (halt ∷ []) ≡ wordsOf script =
-          rw (behind-last script count k h) at (g .whole) in
+      rw (behind-last script count k h) at (g .whole) in
       let n : place + 1 ≡ length (wordsOf script) =
-          sym (ap length (sym e) ∙ length-append (g .words) (halt ∷ []) ∙ (rw (g .many))) in
+      sym (ap length (sym e) ∙ length-append (g .words) (halt ∷ []) ∙ (rw (g .many))) in
       i ∙ one-more-word (g .words) halt lent image place (g .many) (g .written) ∙ (rw (e, n))
 
 -- how many records there are, and where they lie
@@ -203,5 +218,5 @@ pub counts : (script : List ℕ) (count : ℕ) → count ≡ recordCount script 
     → (count ≤ 1024) × (12 * count ≤ length script)
 counts script count e h =
     let l = ltb-false 1024 (recordCount script)
-        (or-right (not (eqb (length script % 12) 0)) (ltb 1024 (recordCount script)) (accepts script h .length-good)) in
+    (or-right (not (eqb (length script % 12) 0)) (ltb 1024 (recordCount script)) (accepts script h .length-good)) in
     (omega arith, omega arith)

@@ -50,9 +50,9 @@ one-more-word ws w lent image n l e =
     let d : drop (12 * n) image ≡ drop (12 * n) lent = ap (drop (12 * n)) e ∙ drop-at (imageBytes ws) (drop (12 * n) lent) (12 * n) m in
     let q : 12 * n + 12 ≡ 12 * (n + 1) = omega arith in
     let f : drop 12 (drop (12 * n) image) ≡ drop (12 * (n + 1)) lent =
-        ap (drop 12) d ∙ drop-drop 12 (12 * n) lent ∙ ap (λ (k : ℕ). drop k lent) q in
+    ap (drop 12) d ∙ drop-drop 12 (12 * n) lent ∙ ap (λ (k : ℕ). drop k lent) q in
     let g : imageBytes (ws ++ (w ∷ [])) ≡ imageBytes ws ++ bytesOf w =
-        image-append ws (w ∷ []) ∙ ap (λ (z : List ℕ). imageBytes ws ++ z) (append-nil (bytesOf w)) in
+    image-append ws (w ∷ []) ∙ ap (λ (z : List ℕ). imageBytes ws ++ z) (append-nil (bytesOf w)) in
     ap (λ (z : List ℕ). z ++ (bytesOf w ++ drop 12 (drop (12 * n) image))) t
     ∙ ap (λ (z : List ℕ). imageBytes ws ++ (bytesOf w ++ z)) f
     ∙ sym (append-assoc (imageBytes ws) (bytesOf w) (drop (12 * (n + 1)) lent))

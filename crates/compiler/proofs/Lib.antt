@@ -3,3 +3,4 @@ pub mod Places
 pub mod Walk
 pub mod Image
 pub mod Emitting
+pub mod Compiling

@@ -24,17 +24,19 @@ sub-result : tie.Need-sub-result
 sub-result c = search needs
 
 returns-4 : tie.Need-returns-4
-returns-4 c = simp
-    (ne-eqb _ _ (c .before .before .before .if1 .left),
-    ne-eqb _ _ (c .before .before .if2 .left),
-    eq-eqb _ _ (c .before .if3 .taken),
-    ne-eqb _ _ (c .if4 .left))
+returns-4 c = simp (
+  ne-eqb _ _ (c .before .before .before .if1 .left),
+  ne-eqb _ _ (c .before .before .if2 .left),
+  eq-eqb _ _ (c .before .if3 .taken),
+  ne-eqb _ _ (c .if4 .left),
+)
 
 returns-5 : tie.Need-returns-5
-returns-5 c = simp
-    (ne-eqb _ _ (c .before .before .if1 .left),
-    ne-eqb _ _ (c .before .if2 .left),
-    ne-eqb _ _ (c .if3 .left))
+returns-5 c = simp (
+  ne-eqb _ _ (c .before .before .if1 .left),
+  ne-eqb _ _ (c .before .if2 .left),
+  ne-eqb _ _ (c .if3 .left),
+)
 
 pub depth-after-spec : {M : Type 1} → statement M
 depth-after-spec =

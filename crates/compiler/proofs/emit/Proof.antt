@@ -33,23 +33,25 @@ gives-requires : tie.Need-gives-requires Inv-loop μ-loop
 gives-requires c κs = search needs
 
 word-of-requires : tie.Need-word-of-requires Inv-loop μ-loop
-word-of-requires c κs = 
+word-of-requires c κs =
     omega
     (arith, counts (c .before .before .before .before .before .before .before .before .before .args .script .now) (c .before .before .before .before .before .before .before .before .before .args .count) (c .before .before .before .before .before .before .before .before .before .pre .0 .0) (c .before .before .before .before .before .before .before .before .before .pre .0 .1), few _ _ _ _ _ _ _ (c .before .before .before .before .before .loop .inv) (c .before .before .before .before .before .before .before .before .before .pre .0 .1))
 
 put-requires : tie.Need-put-requires Inv-loop μ-loop
-put-requires c κs = 
-    omega
-    (arith,
-    has-room _ _ _ _ _ _ _ (c .before .before .before .before .before .before .before .loop .inv),
-    few _ _ _ _ _ _ _ (c .before .before .before .before .before .before .before .loop .inv) (c .before .before .before .before .before .before .before .before .before .before .before .pre .0 .1),
-    c .before .before .before .before .before .before .before .loop .inv .same,
-    c .before .before .before .before .before .before .before .before .before .before .before .pre .1)
+put-requires c κs =
+    omega (
+      arith,
+      has-room _ _ _ _ _ _ _ (c .before .before .before .before .before .before .before .loop .inv),
+      few _ _ _ _ _ _ _ (c .before .before .before .before .before .before .before .loop .inv) (c .before .before .before .before .before .before .before .before .before .before .before .pre .0 .1),
+      c .before .before .before .before .before .before .before .loop .inv .same,
+      c .before .before .before .before .before .before .before .before .before .before .before .pre .1,
+    )
 
 after-requires : tie.Need-after-requires Inv-loop μ-loop
-after-requires c κs = 
-    ((c .before .before .before .before .before .before .before .before .before .before .loop .inv .held, omega (arith, few _ _ _ _ _ _ _ (c .before .before .before .before .before .before .before .before .before .before .loop .inv) (c .before .before .before .before .before .before .before .before .before .before .before .before .before .before .pre .0 .1))),
-    opens _ _ _ _ _ _ _ (c .before .before .before .before .before .before .before .before .before .before .loop .inv) _ (c .before .before .before .before .before .before .before .before .before .loop-test .taken) (c .before .before .before .before .before .before .before .before .read .ensures))
+after-requires c κs = (
+  (c .before .before .before .before .before .before .before .before .before .before .loop .inv .held, omega (arith, few _ _ _ _ _ _ _ (c .before .before .before .before .before .before .before .before .before .before .loop .inv) (c .before .before .before .before .before .before .before .before .before .before .before .before .before .before .pre .0 .1))),
+  opens _ _ _ _ _ _ _ (c .before .before .before .before .before .before .before .before .before .before .loop .inv) _ (c .before .before .before .before .before .before .before .before .before .loop-test .taken) (c .before .before .before .before .before .before .before .before .read .ensures),
+)
 
 add-place : tie.Need-add-place Inv-loop μ-loop
 add-place c = omega (arith, few _ _ _ _ _ _ _ (c .before .before .before .before .before .before .before .before .before .before .before .loop .inv) (c .before .before .before .before .before .before .before .before .before .before .before .before .before .before .before .pre .0 .1))
@@ -61,16 +63,17 @@ loop-less : tie.Need-loop-less Inv-loop μ-loop
 loop-less c = omega arith
 
 loop-again : tie.Need-loop-again Inv-loop μ-loop
-loop-again c = 
+loop-again c =
     goes-on _ _ _ _ _ _ _ (c .before .before .before .before .before .before .before .before .before .before .before .loop .inv) _ (c .before .before .before .before .before .before .before .before .before .before .loop-test .taken) (c .before .before .before .before .before .before .before .before .before .read .ensures) _ _ _
     (sym (rw (c .before .before .before .before .before .before .before .before .innermost .ensures) at (c .before .before .before .before .before .before .before .gives .ensures)) ∙ c .before .before .before .before .before .before .if1 .taken)
     (rw (c .before .before .before .before .before .before .before .before .innermost .ensures) at (c .before .before .before .before .before .word-of .ensures)) (c .before .before .before .put .ensures) (c .before .before .before .put .kept .0)
     (c .after .ensures .0) (c .after .ensures .1)
 
 after-requires-2 : tie.Need-after-requires-2 Inv-loop μ-loop
-after-requires-2 c κs = 
-    ((c .before .before .before .before .before .loop .inv .held, omega (arith, few _ _ _ _ _ _ _ (c .before .before .before .before .before .loop .inv) (c .before .before .before .before .before .before .before .before .before .pre .0 .1))),
-    opens _ _ _ _ _ _ _ (c .before .before .before .before .before .loop .inv) _ (c .before .before .before .before .loop-test .taken) (c .before .before .before .read .ensures))
+after-requires-2 c κs = (
+  (c .before .before .before .before .before .loop .inv .held, omega (arith, few _ _ _ _ _ _ _ (c .before .before .before .before .before .loop .inv) (c .before .before .before .before .before .before .before .before .before .pre .0 .1))),
+  opens _ _ _ _ _ _ _ (c .before .before .before .before .before .loop .inv) _ (c .before .before .before .before .loop-test .taken) (c .before .before .before .read .ensures),
+)
 
 add-k-2 : tie.Need-add-k-2 Inv-loop μ-loop
 add-k-2 c = omega (arith, counts (c .before .before .before .before .before .before .before .before .before .before .args .script .now) (c .before .before .before .before .before .before .before .before .before .before .args .count) (c .before .before .before .before .before .before .before .before .before .before .pre .0 .0) (c .before .before .before .before .before .before .before .before .before .before .pre .0 .1))
@@ -79,7 +82,7 @@ loop-less-2 : tie.Need-loop-less-2 Inv-loop μ-loop
 loop-less-2 c = omega arith
 
 loop-again-2 : tie.Need-loop-again-2 Inv-loop μ-loop
-loop-again-2 c = 
+loop-again-2 c =
     passes _ _ _ _ _ _ _ (c .before .before .before .before .before .before .loop .inv) _ (c .before .before .before .before .before .loop-test .taken) (c .before .before .before .before .read .ensures) _
     (sym (rw (c .before .before .before .innermost .ensures) at (c .before .before .gives .ensures)) ∙ c .before .if1 .left) (c .after2 .ensures .0)
     (c .after2 .ensures .1)
@@ -88,19 +91,20 @@ word-requires : tie.Need-word-requires Inv-loop μ-loop
 word-requires c κs = search needs
 
 put-requires-2 : tie.Need-put-requires-2 Inv-loop μ-loop
-put-requires-2 c κs = 
-    omega
-    (arith,
-    has-room _ _ _ _ _ _ _ (c .before .before .before .loop .inv),
-    few _ _ _ _ _ _ _ (c .before .before .before .loop .inv) (c .before .before .before .before .before .before .before .pre .0 .1),
-    c .before .before .before .loop .inv .same,
-    c .before .before .before .before .before .before .before .pre .1)
+put-requires-2 c κs =
+    omega (
+      arith,
+      has-room _ _ _ _ _ _ _ (c .before .before .before .loop .inv),
+      few _ _ _ _ _ _ _ (c .before .before .before .loop .inv) (c .before .before .before .before .before .before .before .pre .0 .1),
+      c .before .before .before .loop .inv .same,
+      c .before .before .before .before .before .before .before .pre .1,
+    )
 
 same-length : tie.Need-same-length Inv-loop μ-loop
 same-length c = c .before .before .put2 .kept .0 ∙ c .before .before .before .before .before .before .loop .inv .same
 
 returns : tie.Need-returns Inv-loop μ-loop
-returns c = 
+returns c =
     completes _ _ _ _ _ _ _ (c .before .before .before .before .before .before .loop .inv) _ (c .before .before .before .before .before .loop-test .left) (rw (c .before .before .before .word .ensures) at (c .before .before .put2 .ensures))
 
 pub emit-spec : {M : Type 1} → statement M

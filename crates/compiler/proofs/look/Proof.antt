@@ -11,7 +11,7 @@ use Rattle.compiler.proofs.look.Statement.{statement}
 use Rattle.compiler.proofs.look.Tie as tie
 
 abbrev Inv-loop : tie.InvT-loop
-Inv-loop script count from place depth₀ at₀ k₀ depth at k = 
+Inv-loop script count from place depth₀ at₀ k₀ depth at k =
     (k ≤ count) × (from ≤ k) × (depth ≤ k - from) × (at ≤ place + (k - from))
     × (ahead 0 place (recordsFrom (count - from) from script) ≡ ahead depth at (recordsFrom (count - k) k script))
 
@@ -34,7 +34,7 @@ stopped-requires : tie.Need-stopped-requires Inv-loop μ-loop
 stopped-requires c κs = omega (arith, c .before .before .before .before .loop .inv)
 
 returns : tie.Need-returns Inv-loop μ-loop
-returns c = 
+returns c =
     c .stopped .ensures
     ∙ sym
     (c .before .before .before .before .before .loop .inv .4
@@ -53,20 +53,21 @@ loop-less : tie.Need-loop-less Inv-loop μ-loop
 loop-less c = omega arith
 
 loop-again : tie.Need-loop-again Inv-loop μ-loop
-loop-again c = 
+loop-again c =
     let i = c .before .before .before .before .before .before .loop .inv in
     let d = shallow (c .before .before .before .before .before .before .loop .depth) (c .before .before .before .before .read .result .kind) in
-    let a = near (eqb (c .before .before .before .before .read .result .kind) 5) (c .before .before .before .before .before .before .loop .at) in
-    (omega arith,
-    omega arith,
-    omega (arith, c .depth-after .ensures, d, i),
-    omega (arith, c .before .counted .ensures, a, i),
-    i .4
-    ∙ (rw (c .depth-after .ensures, c .before .counted .ensures)
-    (look-goes _ _ _ _ _ _ (c .before .before .before .before .before .loop-test .taken) (c .before .before .before .before .read .ensures) (sym (c .before .before .before .stops .ensures) ∙ c .before .before .if1 .left))))
+    let a = near (eqb (c .before .before .before .before .read .result .kind) 5) (c .before .before .before .before .before .before .loop .at) in (
+      omega arith,
+      omega arith,
+      omega (arith, c .depth-after .ensures, d, i),
+      omega (arith, c .before .counted .ensures, a, i),
+      i .4
+          ∙ (rw (c .depth-after .ensures, c .before .counted .ensures)
+          (look-goes _ _ _ _ _ _ (c .before .before .before .before .before .loop-test .taken) (c .before .before .before .before .read .ensures) (sym (c .before .before .before .stops .ensures) ∙ c .before .before .if1 .left))),
+    )
 
 returns-2 : tie.Need-returns-2 Inv-loop μ-loop
-returns-2 c = 
+returns-2 c =
     sym (c .before .loop .inv .4 ∙ ap (ahead (c .before .loop .depth) (c .before .loop .at)) (behind-last _ _ _ (c .loop-test .left)))
 
 pub look-spec : {M : Type 1} → statement M

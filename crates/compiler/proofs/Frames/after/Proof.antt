@@ -35,9 +35,10 @@ returns-4 : tie.Need-returns-4
 returns-4 c =
     let s = c .before .before .before .before .args .self in
     let k = c .before .before .before .before .pre .0 .0 in
-    let h : 0 < s .depth = omega (arith, c .if4 .left) in
-    (record { deep = omega (arith, k .deep); sized = k .sized },
-    rw (c .before .if3 .taken) (stack-pop (s .depth) (s .starts) h))
+    let h : 0 < s .depth = omega (arith, c .if4 .left) in (
+      record { deep = omega (arith, k .deep); sized = k .sized },
+      rw (c .before .if3 .taken) (stack-pop (s .depth) (s .starts) h),
+    )
 
 returns-5 : tie.Need-returns-5
 returns-5 c = (c .before .before .before .pre .0 .0, simp (ne-eqb _ _ (c .before .before .if1 .left), ne-eqb _ _ (c .before .if2 .left), ne-eqb _ _ (c .if3 .left)))

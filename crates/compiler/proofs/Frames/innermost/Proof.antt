@@ -19,7 +19,7 @@ element-copy-out-result : tie.Need-element-copy-out-result
 element-copy-out-result c = search needs
 
 returns-2 : tie.Need-returns-2
-returns-2 c = 
+returns-2 c =
     let h : 0 < c .before .before .args .t1 .depth = omega (arith, c .before .if1 .left) in
     rw (stack-top (c .before .before .args .t1 .depth) (c .before .before .args .t1 .starts) h)
 

@@ -16,9 +16,10 @@ add-self : tie.Need-add-self
 add-self c = search needs
 
 returns : tie.Need-returns
-returns c =
-    (record { deep = omega arith; sized = simp length-set (c .pre .0 .sized) },
-    stack-push (c .args .t1 .depth) (c .args .t1 .starts) (c .args .start) (omega (arith, c .pre .0 .sized)))
+returns c = (
+  record { deep = omega arith; sized = simp length-set (c .pre .0 .sized) },
+  stack-push (c .args .t1 .depth) (c .args .t1 .starts) (c .args .start) (omega (arith, c .pre .0 .sized)),
+)
 
 pub pushed-spec : {M : Type 1} → statement M
 pushed-spec = tie.close (tie.spec mul-self element-write-self add-self returns)

@@ -1,0 +1,90 @@
+-- What the compiler answers and leaves in the buffer, from what the scan found and whether the words fit; and that it
+-- refuses exactly when one of refusals 1 to 8 holds of the script or the buffer is shorter than its words.
+-- Assumes nothing.
+use Prim.Native.Nat.{ℕ, _*_, _%_, _≤_, _<_}
+use mathlib.Core.Path.{_≡_, refl, sym, ap, _∙_}
+use mathlib.Core.Bool.{Bool, true, false, cond}
+use mathlib.Core.List.{List, _++_}
+use native.Mathlib.Omega.{arith}
+use borrow.Author.Tests.{eqb-false, eqb-true, le-ltb, lt-ltb, ltb-false, ne-eqb}
+use lib.Dec.{eqb}
+use lib.ListN.{length, drop}
+use Rattle.script.specs.Records.{recordCount}
+use Rattle.script.specs.Refusals.{refusal, scriptRefusal, wordsIn}
+use Rattle.script.specs.Scan.{scriptScan}
+use Rattle.script.specs.declared.Found.{Found}
+use Rattle.compiler.specs.Compile.{compiled, compileRefusal, imageAfter, tooShort}
+use Rattle.compiler.specs.Words.{imageBytes, wordsOf}
+use Rattle.compiler.specs.declared.Compiled.{Compiled}
+use Rattle.compiler.proofs.Emitting.{counts}
+use Rattle.compiler.proofs.Places.{count-words}
+
+module _ (script image : List ℕ) (s : Found) (e : s ≡ scriptScan script) where
+  number-is : s .number ≡ scriptRefusal script .number
+  unfolding scriptScan
+  number-is = ap (λ (x : Found). x .number) e
+
+  place-is : s .place ≡ scriptRefusal script .place
+  unfolding scriptScan
+  place-is = ap (λ (x : Found). x .place) e
+
+  pub accepted-by : s .number ≡ 0 → scriptRefusal script .number ≡ 0
+  accepted-by z = sym number-is ∙ z
+
+  pub words-are : s .number ≡ 0 → s .words ≡ wordsIn script
+  unfolding scriptScan
+  words-are z = ap (λ (x : Found). x .words) e ∙ (rw (accepted-by z))
+
+  -- ---- refused by the scan
+  pub refused : (s .number ≡ 0 → ⊥)
+      → (_≡_ {A = Compiled} (record { refusal = s .number; place = s .place; words = 0 }) (compiled script image))
+      × (image ≡ imageAfter script image)
+  unfolding compiled imageAfter compileRefusal
+  refused z =
+      let n : eqb (scriptRefusal script .number) 0 ≡ false = rw number-is at (ne-eqb (s .number) 0 z) in
+      (rw (n, n, number-is, place-is), rw (n, n))
+
+  -- ---- the words do not fit
+  pub unfit : s .number ≡ 0 → length image < 12 * s .words
+      → (_≡_ {A = Compiled} (record { refusal = 9; place = recordCount script % 4096; words = 0 }) (compiled script image))
+      × (image ≡ imageAfter script image)
+  unfolding compiled imageAfter compileRefusal
+  unfit z l =
+      let t : tooShort script image ≡ true = lt-ltb (length image) (12 * wordsIn script) (rw (words-are z) at l) in
+      let c = counts script (recordCount script) refl (accepted-by z) in
+      let p : recordCount script % 4096 ≡ recordCount script = omega arith in
+      (rw (accepted-by z, t, p), rw (accepted-by z, t))
+
+  -- ---- compiled
+  pub fit : s .number ≡ 0 → 12 * s .words ≤ length image → 12 * length (wordsOf script) ≤ length image
+  fit z l = rw (← (count-words script (accepted-by z))) (rw (words-are z) at l)
+
+  pub done : (now : List ℕ) → s .number ≡ 0 → 12 * s .words ≤ length image
+      → now ≡ imageBytes (wordsOf script) ++ drop (12 * length (wordsOf script)) image
+      → (_≡_ {A = Compiled} (record { refusal = 0; place = 0; words = s .words }) (compiled script image))
+      × (now ≡ imageAfter script image)
+  unfolding compiled imageAfter compileRefusal
+  done now z l i =
+      let t : tooShort script image ≡ false = le-ltb (length image) (12 * wordsIn script) (rw (words-are z) at l) in
+      (rw (accepted-by z, t, words-are z), i ∙ (rw (accepted-by z, t, count-words script (accepted-by z))))
+
+-- "The compiler refuses a script exactly when it meets one of refusals 1 to 8 or the image buffer is shorter than its
+-- words."
+pub refuses-not : (script image : List ℕ) → compiled script image .refusal ≡ 0
+    → (scriptRefusal script .number ≡ 0) × (12 * wordsIn script ≤ length image)
+unfolding compiled compileRefusal
+refuses-not script image h =
+    pick (eqb (scriptRefusal script .number) 0) (tooShort script image) refl refl h
+  where
+    pick : (a b : Bool) → eqb (scriptRefusal script .number) 0 ≡ a → tooShort script image ≡ b
+        → cond a (cond b (refusal 9 (recordCount script)) (refusal 0 0)) (scriptRefusal script) .number ≡ 0
+        → (scriptRefusal script .number ≡ 0) × (12 * wordsIn script ≤ length image)
+    pick true true p q z = absurd (omega arith)
+    pick true false p q z =
+        (eqb-true (scriptRefusal script .number) 0 p, ltb-false (length image) (12 * wordsIn script) q)
+    pick false b p q z = absurd (eqb-false (scriptRefusal script .number) 0 p z)
+
+pub accepts-all : (script image : List ℕ) → scriptRefusal script .number ≡ 0 → 12 * wordsIn script ≤ length image
+    → compiled script image .refusal ≡ 0
+unfolding compiled compileRefusal
+accepts-all script image z l = rw (z, le-ltb (length image) (12 * wordsIn script) l)
