@@ -12,7 +12,7 @@ pub enum Width {
 }
 
 impl Width {
-    fn of(bytes: u32) -> Option<Width> {
+    pub fn of(bytes: u32) -> Option<Width> {
         match bytes {
             1 => Some(Width::One),
             2 => Some(Width::Two),
@@ -21,7 +21,7 @@ impl Width {
         }
     }
 
-    fn all_ones(self) -> u32 {
+    pub fn all_ones(self) -> u32 {
         match self {
             Width::One => 0xFF,
             Width::Two => 0xFFFF,

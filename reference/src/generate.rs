@@ -8,6 +8,7 @@ use std::io::{self, Write};
 use crate::acpi::PIN_COUNT;
 use crate::device::Device;
 use crate::random::Random;
+use crate::scripts;
 use crate::state::{self, StateBytes};
 use crate::stream::{Session, LINE_LIMIT};
 
@@ -136,7 +137,7 @@ struct Generator {
 type Scenario = fn(&mut Generator);
 
 /// What may come next, with weights.
-const SCENARIOS: [(u32, Scenario); 23] = [
+const SCENARIOS: [(u32, Scenario); 24] = [
     (6, Generator::place_blocks),
     (10, Generator::poke_configuration),
     (5, Generator::drive_key_control),
@@ -160,6 +161,7 @@ const SCENARIOS: [(u32, Scenario); 23] = [
     (26, Generator::damaged_access),
     (22, Generator::damaged_event),
     (48, Generator::malformed),
+    (24, Generator::compile_script),
 ];
 
 impl Generator {
@@ -266,14 +268,7 @@ impl Generator {
 
     /// Any writing of a number that is one to eight hex digits.
     fn number(&mut self, number: u32) -> String {
-        match self.random.below(10) {
-            0 => format!("{number:x}"),
-            1 => format!("{number:02x}"),
-            2 => format!("{number:04X}"),
-            3 => format!("{number:08X}"),
-            4 => format!("{number:08x}"),
-            _ => format!("{number:X}"),
-        }
+        self.random.writing(number)
     }
 
     // Configuration, key and monitor.
@@ -1151,7 +1146,7 @@ impl Generator {
     /// A sound command to damage.
     fn sound_line(&mut self) -> Vec<u8> {
         let (offset, width) = self.random.pick(&ACPI_REGISTERS);
-        match self.random.below(8) {
+        match self.random.below(9) {
             0 | 1 => self.read_line(width, ACPI_PORT + offset),
             2 | 3 => {
                 let value = self.acpi_value(offset, width);
@@ -1160,6 +1155,7 @@ impl Generator {
             4 => self.write_line(1, INDEX_PORT, 0x55),
             5 => self.event_line(0x0300_0000),
             6 => self.random.pick(&[b"O", b"S", b"F"]).to_vec(),
+            7 => scripts::short_command(&mut self.random),
             _ => {
                 let bytes = self.good_state();
                 self.load_line(&bytes)
@@ -1274,6 +1270,17 @@ impl Generator {
                     b"E ",
                     b"R",
                     b"W",
+                    b"C",
+                    b"C ",
+                    b"c 0",
+                    b"C 0",
+                    b"C 0 ",
+                    b"C 0 0",
+                    b"C 0 00",
+                    b"C C",
+                    b"C C  ",
+                    b"C 4001",
+                    b"C 10000000C",
                 ];
                 line = self.random.pick(strange).to_vec();
             }
@@ -1284,6 +1291,12 @@ impl Generator {
             }
         }
         line.retain(|byte| *byte != b'\n');
+        self.line(&line);
+    }
+
+    /// A short script; the device has no part in it.
+    fn compile_script(&mut self) {
+        let line = scripts::short_command(&mut self.random);
         self.line(&line);
     }
 

@@ -4,14 +4,18 @@
 #![forbid(unsafe_code)]
 
 mod acpi;
+mod compiler;
 mod configuration;
 mod device;
 mod generate;
 mod monitor;
 mod random;
+mod scripts;
 mod state;
 mod stream;
 
+#[cfg(test)]
+mod compiler_tests;
 #[cfg(test)]
 mod tests;
 
@@ -21,6 +25,7 @@ use std::process::ExitCode;
 const USAGE: &str = "\
 usage: reference answer                read commands on standard input, print the expected answers
        reference generate SEED COUNT   print COUNT random commands (both numbers decimal)
+       reference scripts SEED COUNT    print COUNT random compile commands
 ";
 
 const BUFFER_BYTES: usize = 1 << 16;
@@ -28,12 +33,17 @@ const BUFFER_BYTES: usize = 1 << 16;
 enum Task {
     Answer,
     Generate { seed: u64, count: u64 },
+    Scripts { seed: u64, count: u64 },
 }
 
 fn task(arguments: &[String]) -> Option<Task> {
     match arguments {
         [name] if name == "answer" => Some(Task::Answer),
         [name, seed, count] if name == "generate" => Some(Task::Generate {
+            seed: seed.parse().ok()?,
+            count: count.parse().ok()?,
+        }),
+        [name, seed, count] if name == "scripts" => Some(Task::Scripts {
             seed: seed.parse().ok()?,
             count: count.parse().ok()?,
         }),
@@ -49,6 +59,7 @@ fn run(task: Task) -> io::Result<()> {
             stream::answer_all(&mut input, &mut output)?;
         }
         Task::Generate { seed, count } => generate::write_commands(seed, count, &mut output)?,
+        Task::Scripts { seed, count } => scripts::write_scripts(seed, count, &mut output)?,
     }
     output.flush()
 }

@@ -35,6 +35,18 @@ impl Random {
         items[self.below(items.len() as u32) as usize]
     }
 
+    /// Any writing of a number that is one to eight hex digits.
+    pub fn writing(&mut self, number: u32) -> String {
+        match self.below(10) {
+            0 => format!("{number:x}"),
+            1 => format!("{number:02x}"),
+            2 => format!("{number:04X}"),
+            3 => format!("{number:08X}"),
+            4 => format!("{number:08x}"),
+            _ => format!("{number:X}"),
+        }
+    }
+
     /// A number of so many bits: often 0, all ones or a single bit.
     pub fn bits(&mut self, bits: u32) -> u32 {
         let all = u32::MAX >> 32u32.saturating_sub(bits).min(31);

@@ -3,11 +3,18 @@
 use std::fmt;
 use std::io::{self, BufRead, Write};
 
+use crate::compiler;
 use crate::device::{Answer, Device, Outputs, Refusal};
-use crate::state::{self, StateBytes, STATE_BYTES};
+use crate::state::{self, StateBytes};
 
 /// A line may have at most this many bytes before its line feed.
 pub const LINE_LIMIT: usize = 65_536;
+
+/// The image buffer of a compile command has at most this many bytes, and its script too.
+pub const COMPILE_LIMIT: usize = 16_384;
+
+/// Before the compiler is called, byte k of the buffer is k modulo this.
+const BUFFER_CYCLE: usize = 251;
 
 /// The longest number, in digits.
 const NUMBER_DIGITS: usize = 8;
@@ -23,6 +30,7 @@ enum Command {
     State,
     Load(Box<StateBytes>),
     Fresh,
+    Compile { length: usize, script: Vec<u8> },
 }
 
 impl Command {
@@ -49,6 +57,14 @@ impl Command {
             [b"S"] => Some(Command::State),
             [b"L", digits] => Some(Command::Load(Box::new(state_bytes(digits)?))),
             [b"F"] => Some(Command::Fresh),
+            [b"C", length] => Some(Command::Compile {
+                length: buffer_length(length)?,
+                script: Vec::new(),
+            }),
+            [b"C", length, script] => Some(Command::Compile {
+                length: buffer_length(length)?,
+                script: script_bytes(script)?,
+            }),
             _ => None,
         }
     }
@@ -64,16 +80,33 @@ fn number(word: &[u8]) -> Option<u32> {
     })
 }
 
-/// Two hex digits for each byte, the high digit first; only a whole state is of use.
-fn state_bytes(word: &[u8]) -> Option<StateBytes> {
-    if word.len() != 2 * STATE_BYTES {
+/// Two hex digits for each byte, the high digit first.
+fn byte_string(word: &[u8]) -> Option<Vec<u8>> {
+    let pairs = word.chunks_exact(2);
+    if !pairs.remainder().is_empty() {
         return None;
     }
-    let mut bytes = [0; STATE_BYTES];
-    for (byte, digits) in bytes.iter_mut().zip(word.chunks_exact(2)) {
-        *byte = hex_digit(digits[0])? << 4 | hex_digit(digits[1])?;
-    }
-    Some(bytes)
+    pairs
+        .map(|digits| Some(hex_digit(digits[0])? << 4 | hex_digit(digits[1])?))
+        .collect()
+}
+
+/// Only a whole state is of use.
+fn state_bytes(word: &[u8]) -> Option<StateBytes> {
+    byte_string(word)?.try_into().ok()
+}
+
+fn buffer_length(word: &[u8]) -> Option<usize> {
+    let length = usize::try_from(number(word)?).ok()?;
+    (length <= COMPILE_LIMIT).then_some(length)
+}
+
+/// An empty script is left out, so an empty word is a space behind the last word.
+fn script_bytes(word: &[u8]) -> Option<Vec<u8>> {
+    let script = byte_string(word)?;
+    (1..=COMPILE_LIMIT)
+        .contains(&script.len())
+        .then_some(script)
 }
 
 fn hex_digit(digit: u8) -> Option<u8> {
@@ -95,6 +128,8 @@ pub enum Reply {
     State(Box<StateBytes>),
     Loaded,
     Fresh,
+    /// What the compiler gave, and the whole buffer afterwards.
+    Compiled(Result<usize, compiler::Refusal>, Vec<u8>),
     Unread,
 }
 
@@ -113,13 +148,29 @@ impl fmt::Display for Reply {
             Reply::Outputs(outputs) => write!(line, "OUTPUTS {outputs}"),
             Reply::State(bytes) => {
                 line.write_str("STATE ")?;
-                bytes.iter().try_for_each(|byte| write!(line, "{byte:02X}"))
+                write_bytes(line, bytes.as_slice())
             }
             Reply::Loaded => line.write_str("LOADED"),
             Reply::Fresh => line.write_str("FRESH"),
+            Reply::Compiled(outcome, image) => {
+                match outcome {
+                    Ok(words) => write!(line, "COMPILED {words}")?,
+                    Err(compiler::Refusal { fault, place }) => {
+                        write!(line, "REFUSED {} {place}", fault.number())?;
+                    }
+                }
+                if !image.is_empty() {
+                    line.write_str(" ")?;
+                }
+                write_bytes(line, image)
+            }
             Reply::Unread => line.write_str("UNREAD"),
         }
     }
+}
+
+fn write_bytes(line: &mut fmt::Formatter<'_>, bytes: &[u8]) -> fmt::Result {
+    bytes.iter().try_for_each(|byte| write!(line, "{byte:02X}"))
 }
 
 impl fmt::Display for Outputs {
@@ -177,6 +228,11 @@ impl Session {
             Command::Fresh => {
                 self.device = Device::fresh();
                 Ok(Reply::Fresh)
+            }
+            Command::Compile { length, script } => {
+                let mut image: Vec<u8> = (0..length).map(|k| (k % BUFFER_CYCLE) as u8).collect();
+                let outcome = compiler::compile(&script, &mut image);
+                Ok(Reply::Compiled(outcome, image))
             }
         }
     }

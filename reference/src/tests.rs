@@ -600,7 +600,11 @@ fn only_done_accesses_change_the_state() {
                 settled.acpi.settle();
                 assert_eq!(session.device(), &settled);
             }
-            Reply::Refused(_) | Reply::Unread | Reply::Outputs(_) | Reply::State(_) => {
+            Reply::Refused(_)
+            | Reply::Unread
+            | Reply::Outputs(_)
+            | Reply::State(_)
+            | Reply::Compiled(..) => {
                 assert_eq!(session.device(), &settled);
             }
             Reply::Access(..) | Reply::Event(_) => assert!(session.device().in_range()),
