@@ -66,6 +66,18 @@ pub fn number(line: &[u8], at: usize) -> Hex {
     }
 }
 
+// The number behind one space at a place.
+pub fn next_number(line: &[u8], at: usize) -> Hex {
+    if is_space(line, at) {
+        return number(line, after(at, 1));
+    }
+    Hex {
+        ok: false,
+        value: 0,
+        next: at,
+    }
+}
+
 // The place so many bytes on; no line is long enough to pass the largest number.
 pub fn after(at: usize, count: usize) -> usize {
     std::num::wrapping_add_usize(at, count)

@@ -41,11 +41,8 @@ pub fn loaded() {
 
 pub fn refused(number: u32, place: u32) {
     let mut line = [0u8; 64];
-    let a = digits::put_text(&mut line, 0, b"REFUSED ");
-    let b = digits::put_decimal(&mut line, a, number);
-    let c = digits::put(&mut line, b, b' ');
-    let d = digits::put_decimal(&mut line, c, place);
-    print(&mut line, d);
+    let end = put_refusal(&mut line, number, place);
+    print(&mut line, end);
 }
 
 pub fn access_done(status: u32, value: u32, outputs: Outputs) {
@@ -86,5 +83,39 @@ pub fn state(device: Device) {
     let bytes = state::bytes_of(device);
     let a = digits::put_text(&mut line, 0, b"STATE ");
     let b = put_bytes(&mut line, a, &bytes);
+    print(&mut line, b);
+}
+
+fn put_refusal(line: &mut [u8], number: u32, place: u32) -> usize {
+    let a = digits::put_text(line, 0, b"REFUSED ");
+    let b = digits::put_decimal(line, a, number);
+    let c = digits::put(line, b, b' ');
+    digits::put_decimal(line, c, place)
+}
+
+fn put_count(line: &mut [u8], words: u32) -> usize {
+    let a = digits::put_text(line, 0, b"COMPILED ");
+    digits::put_decimal(line, a, words)
+}
+
+fn put_buffer(line: &mut [u8], at: usize, image: &[u8]) -> usize {
+    if image.len() == 0 {
+        return at;
+    }
+    let next = digits::put(line, at, b' ');
+    put_bytes(line, next, image)
+}
+
+fn put_compiled(line: &mut [u8], refusal: u32, place: u32, words: u32) -> usize {
+    if refusal == 0 {
+        return put_count(line, words);
+    }
+    put_refusal(line, refusal, place)
+}
+
+pub fn compiled(refusal: u32, place: u32, words: u32, image: &[u8]) {
+    let mut line = [0u8; 33000];
+    let a = put_compiled(&mut line, refusal, place, words);
+    let b = put_buffer(&mut line, a, image);
     print(&mut line, b);
 }

@@ -1,19 +1,7 @@
 // One command: read, done on the device, answered. A line that is no command leaves the device as it is.
-use crate::answer;
+use crate::{answer, scripts};
 use access::Access;
 use device::Device;
-
-// The number behind one space at a place.
-fn next_number(line: &[u8], at: usize) -> digits::Hex {
-    if digits::is_space(line, at) {
-        return digits::number(line, digits::after(at, 1));
-    }
-    digits::Hex {
-        ok: false,
-        value: 0,
-        next: at,
-    }
-}
 
 fn access(device: Device, access: Access) -> Device {
     let r = device.access(access);
@@ -34,8 +22,8 @@ fn unread(device: Device) -> Device {
 
 // R width port
 fn read(device: Device, line: &[u8]) -> Device {
-    let width = next_number(line, 1);
-    let port = next_number(line, width.next);
+    let width = digits::next_number(line, 1);
+    let port = digits::next_number(line, width.next);
     if width.ok && port.ok && digits::ends(line, port.next) {
         return access(
             device,
@@ -52,9 +40,9 @@ fn read(device: Device, line: &[u8]) -> Device {
 
 // W width port value
 fn write(device: Device, line: &[u8]) -> Device {
-    let width = next_number(line, 1);
-    let port = next_number(line, width.next);
-    let value = next_number(line, port.next);
+    let width = digits::next_number(line, 1);
+    let port = digits::next_number(line, width.next);
+    let value = digits::next_number(line, port.next);
     if width.ok && port.ok && value.ok && digits::ends(line, value.next) {
         return access(
             device,
@@ -71,7 +59,7 @@ fn write(device: Device, line: &[u8]) -> Device {
 
 // E number
 fn event(device: Device, line: &[u8]) -> Device {
-    let number = next_number(line, 1);
+    let number = digits::next_number(line, 1);
     if number.ok && digits::ends(line, number.next) {
         let r = device.event(number.value);
         let next = r.device;
@@ -157,6 +145,10 @@ pub fn run(device: Device, line: &[u8]) -> Device {
     }
     if kind == b'L' {
         return load(device, line);
+    }
+    if kind == b'C' {
+        scripts::run(line);
+        return device;
     }
     if !alone {
         return unread(device);

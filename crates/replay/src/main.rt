@@ -1,6 +1,7 @@
 // Drives one device from a stream of commands: docs/CASES.md has the form of the stream and of the answers.
 mod answer;
 mod command;
+mod scripts;
 
 use device::Device;
 use libc::STDIN_FILENO;

@@ -37,16 +37,7 @@ fn long(a: u8, b: u8, c: u8, d: u8) -> u32 {
     (a as u32) + (b as u32) * 0x100 + (c as u32) * 0x1_0000 + (d as u32) * 0x100_0000
 }
 
-pub fn bytes_of(device: Device) -> [u8; 106] {
-    let config = device.config;
-    let block = device.key;
-    let key = block.bytes;
-    let monitor = device.monitor;
-    let registers = monitor.registers;
-    let acpi = device.acpi;
-    let maps = acpi.maps;
-    let levels = acpi.levels;
-    let timer = acpi.timer;
+fn config_bytes(config: Config) -> [u8; 9] {
     [
         bit(config.unlocked),
         config.index,
@@ -57,38 +48,13 @@ pub fn bytes_of(device: Device) -> [u8; 106] {
         high(config.key),
         low(config.key),
         config.control,
-        key[0],
-        key[1],
-        key[2],
-        key[3],
-        key[4],
-        key[5],
-        key[6],
-        key[7],
-        key[8],
-        key[9],
-        key[10],
-        key[11],
-        key[12],
-        key[13],
-        key[14],
-        key[15],
-        key[16],
-        key[17],
-        key[18],
-        key[19],
-        key[20],
-        key[21],
-        key[22],
-        key[23],
-        key[24],
-        key[25],
-        key[26],
-        key[27],
-        key[28],
-        key[29],
-        key[30],
-        key[31],
+    ]
+}
+
+// The index, and all nineteen registers: those that cannot change are at their reset.
+fn monitor_bytes(monitor: Monitor) -> [u8; 20] {
+    let registers = monitor.registers;
+    [
         monitor.index,
         registers[0],
         0x44,
@@ -109,6 +75,11 @@ pub fn bytes_of(device: Device) -> [u8; 106] {
         registers[9],
         registers[10],
         registers[11],
+    ]
+}
+
+fn power_bytes(acpi: Acpi) -> [u8; 10] {
+    [
         acpi.pcnt,
         acpi.cpu,
         bit(acpi.scien),
@@ -119,42 +90,81 @@ pub fn bytes_of(device: Device) -> [u8; 106] {
         low(acpi.pm1cnt),
         high(acpi.pm1cnt),
         bit(acpi.sleeping),
+    ]
+}
+
+fn event_bytes(acpi: Acpi) -> [u8; 6] {
+    [
         low(acpi.setupidx),
         high(acpi.setupidx),
         low(acpi.gpe0sts),
         high(acpi.gpe0sts),
         low(acpi.gpe0en),
         high(acpi.gpe0en),
-        low(maps[0]),
-        high(maps[0]),
-        low(maps[1]),
-        high(maps[1]),
-        low(maps[2]),
-        high(maps[2]),
-        low(maps[3]),
-        high(maps[3]),
-        low(maps[4]),
-        high(maps[4]),
-        low(maps[5]),
-        high(maps[5]),
-        low(maps[6]),
-        high(maps[6]),
-        low(maps[7]),
-        high(maps[7]),
+    ]
+}
+
+fn map_bytes(maps: [u16; 8]) -> [u8; 16] {
+    let mut bytes = [0u8; 16];
+    for k in 0..8 {
+        bytes[2 * k] = low(maps[k]);
+        bytes[2 * k + 1] = high(maps[k]);
+    }
+    bytes
+}
+
+fn level_bytes(levels: [bool; 8]) -> [u8; 8] {
+    let mut bytes = [0u8; 8];
+    for k in 0..8 {
+        bytes[k] = bit(levels[k]);
+    }
+    bytes
+}
+
+fn timer_bytes(acpi: Acpi) -> [u8; 5] {
+    let timer = acpi.timer;
+    [
         acpi.irq,
         byte(timer),
         byte(timer / 0x100),
         byte(timer / 0x1_0000),
         byte(timer / 0x100_0000),
-        bit(levels[0]),
-        bit(levels[1]),
-        bit(levels[2]),
-        bit(levels[3]),
-        bit(levels[4]),
-        bit(levels[5]),
-        bit(levels[6]),
-        bit(levels[7]),
     ]
+}
+
+// Puts a part's bytes at a place of the whole.
+fn put(bytes: &mut [u8; 106], at: usize, part: &[u8]) {
+    for k in 0..part.len() {
+        if k < 106 {
+            if at < 106 - k {
+                bytes[at + k] = part[k];
+            }
+        }
+    }
+}
+
+pub fn bytes_of(device: Device) -> [u8; 106] {
+    let config = device.config;
+    let block = device.key;
+    let key = block.bytes;
+    let monitor = device.monitor;
+    let acpi = device.acpi;
+    let mut bytes = [0u8; 106];
+    put(&mut bytes, 0, &config_bytes(config));
+    put(&mut bytes, 9, &key);
+    put(&mut bytes, 41, &monitor_bytes(monitor));
+    put_acpi(&mut bytes, acpi);
+    bytes
+}
+
+fn put_acpi(bytes: &mut [u8; 106], acpi: Acpi) {
+    let maps = acpi.maps;
+    let levels = acpi.levels;
+    put(bytes, 61, &power_bytes(acpi));
+    put(bytes, 71, &event_bytes(acpi));
+    put(bytes, 77, &map_bytes(maps));
+    put(bytes, 93, &timer_bytes(acpi));
+    put(bytes, 98, &level_bytes(levels));
 }
 
 // The levels of the pins are 0 or 1.
@@ -259,27 +269,25 @@ fn monitor_of(bytes: &[u8; 106]) -> Monitor {
     }
 }
 
+fn maps_of(bytes: &[u8; 106]) -> [u16; 8] {
+    let mut maps = [0u16; 8];
+    for k in 0..8 {
+        maps[k] = word(bytes[77 + 2 * k], bytes[78 + 2 * k]);
+    }
+    maps
+}
+
+fn levels_of(bytes: &[u8; 106]) -> [bool; 8] {
+    let mut levels = [false; 8];
+    for k in 0..8 {
+        levels[k] = bytes[98 + k] == 1;
+    }
+    levels
+}
+
 fn acpi_of(bytes: &[u8; 106]) -> Acpi {
-    let maps = [
-        word(bytes[77], bytes[78]),
-        word(bytes[79], bytes[80]),
-        word(bytes[81], bytes[82]),
-        word(bytes[83], bytes[84]),
-        word(bytes[85], bytes[86]),
-        word(bytes[87], bytes[88]),
-        word(bytes[89], bytes[90]),
-        word(bytes[91], bytes[92]),
-    ];
-    let levels = [
-        bytes[98] == 1,
-        bytes[99] == 1,
-        bytes[100] == 1,
-        bytes[101] == 1,
-        bytes[102] == 1,
-        bytes[103] == 1,
-        bytes[104] == 1,
-        bytes[105] == 1,
-    ];
+    let maps = maps_of(bytes);
+    let levels = levels_of(bytes);
     Acpi {
         pcnt: bytes[61],
         cpu: bytes[62],
