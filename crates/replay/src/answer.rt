@@ -70,9 +70,13 @@ pub fn outputs(outputs: Outputs) {
     print(&mut line, b);
 }
 
-fn put_bytes(line: &mut [u8], at: usize, bytes: &[u8]) -> usize {
+// The first `size` bytes, of those that there are.
+fn put_bytes(line: &mut [u8], at: usize, bytes: &[u8], size: usize) -> usize {
     let mut next = at;
     for k in 0..bytes.len() {
+        if size <= k {
+            return next;
+        }
         next = digits::put_byte(line, next, bytes[k]);
     }
     next
@@ -82,7 +86,7 @@ pub fn state(device: Device) {
     let mut line = [0u8; 256];
     let bytes = state::bytes_of(device);
     let a = digits::put_text(&mut line, 0, b"STATE ");
-    let b = put_bytes(&mut line, a, &bytes);
+    let b = put_bytes(&mut line, a, &bytes, state::SIZE);
     print(&mut line, b);
 }
 
@@ -98,12 +102,12 @@ fn put_count(line: &mut [u8], words: u32) -> usize {
     digits::put_decimal(line, a, words)
 }
 
-fn put_buffer(line: &mut [u8], at: usize, image: &[u8]) -> usize {
-    if image.len() == 0 {
+fn put_buffer(line: &mut [u8], at: usize, image: &[u8], length: usize) -> usize {
+    if length == 0 {
         return at;
     }
     let next = digits::put(line, at, b' ');
-    put_bytes(line, next, image)
+    put_bytes(line, next, image, length)
 }
 
 fn put_compiled(line: &mut [u8], refusal: u32, place: u32, words: u32) -> usize {
@@ -113,9 +117,10 @@ fn put_compiled(line: &mut [u8], refusal: u32, place: u32, words: u32) -> usize 
     put_refusal(line, refusal, place)
 }
 
-pub fn compiled(refusal: u32, place: u32, words: u32, image: &[u8]) {
+// The answer to a compilation, with the first `length` bytes of the image.
+pub fn compiled(refusal: u32, place: u32, words: u32, image: &[u8], length: usize) {
     let mut line = [0u8; 33000];
     let a = put_compiled(&mut line, refusal, place, words);
-    let b = put_buffer(&mut line, a, image);
+    let b = put_buffer(&mut line, a, image, length);
     print(&mut line, b);
 }

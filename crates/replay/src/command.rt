@@ -1,5 +1,6 @@
 // One command: read, done on the device, answered. A line that is no command leaves the device as it is.
-use crate::{answer, scripts};
+use crate::answer;
+use crate::scripts;
 use access::Access;
 use device::Device;
 

@@ -25,6 +25,15 @@ fn lend(image: &mut [u8; 16384]) {
     }
 }
 
+fn compile_into(script: &[u8], count: usize, image: &mut [u8], length: usize) {
+    if count <= script.len() {
+        if length <= image.len() {
+            let r = compiler::compile(&script[..count], &mut image[..length]);
+            answer::compiled(r.refusal, r.place, r.words, image, length);
+        }
+    }
+}
+
 fn compile(line: &[u8], at: usize, count: usize, length: usize) {
     let mut script = [0u8; 16384];
     let mut image = [0u8; 16384];
@@ -33,12 +42,11 @@ fn compile(line: &[u8], at: usize, count: usize, length: usize) {
         return;
     }
     lend(&mut image);
-    if count <= MOST {
-        if length <= MOST {
-            let r = compiler::compile(&script[..count], &mut image[..length]);
-            answer::compiled(r.refusal, r.place, r.words, &image[..length]);
-        }
-    }
+    compile_all(&script, count, &mut image, length);
+}
+
+fn compile_all(script: &[u8; 16384], count: usize, image: &mut [u8; 16384], length: usize) {
+    compile_into(script, count, image, length);
 }
 
 // How many bytes a byte string has that fills the line from a place on; MOST + 1 where it is none, or too long.

@@ -1,0 +1,48 @@
+-- `replay::scripts::lend` meets its contract. Assumes nothing.
+use Prim.Native.Nat.{_≤_, _-_}
+use mathlib.Core.Path.{_≡_}
+use lib.ListN.{length}
+use borrow.Author.Needs.{needs}
+use Rattle.replay.proofs.scripts.lend.Statement.{statement}
+use Rattle.replay.proofs.scripts.lend.Tie as tie
+
+abbrev Inv-loop : tie.InvT-loop
+Inv-loop image₀ k₀ image k = k ≤ 16384
+
+abbrev μ-loop : tie.MeasureT-loop
+μ-loop image₀ k₀ image k = 16384 - k
+
+loop-holds : tie.Need-loop-holds Inv-loop μ-loop
+loop-holds c = search needs
+
+cast-image : tie.Need-cast-image Inv-loop μ-loop
+cast-image c = search needs
+
+element-write-image : tie.Need-element-write-image Inv-loop μ-loop
+element-write-image c = search needs
+
+add-k : tie.Need-add-k Inv-loop μ-loop
+add-k c = search needs
+
+loop-less : tie.Need-loop-less Inv-loop μ-loop
+loop-less c = search needs
+
+loop-again : tie.Need-loop-again Inv-loop μ-loop
+loop-again c = search needs
+
+returns : tie.Need-returns Inv-loop μ-loop
+returns c = search needs
+
+pub lend-spec : {M : Type 1} → statement M
+lend-spec =
+    tie.close
+    (tie.spec
+    Inv-loop
+    μ-loop
+    loop-holds
+    cast-image
+    element-write-image
+    add-k
+    loop-less
+    loop-again
+    returns)
