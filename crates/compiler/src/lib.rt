@@ -157,11 +157,12 @@ fn word_of(script: &[u8], count: usize, k: usize, place: u32, frame: u32, r: Rec
     word(5, 0, 0, frame, 0)
 }
 
-fn behind(place: u32) -> u32
-    requires { ⌜ place < 4000 ⌝ }
-    ensures { λ r. ⌜ r ≡ suc place ⌝ }
+// Behind a loop's end.
+fn behind(end: u32) -> u32
+    requires { ⌜ end < 4000 ⌝ }
+    ensures { λ r. ⌜ r ≡ suc end ⌝ }
 {
-    place + 1
+    end + 1
 }
 
 // ---- the frames

@@ -37,6 +37,9 @@ pub const ELSE: u32 = 6;
 
 pub const END: u32 = 7;
 
+// No block opens inside this many.
+const MOST_BLOCKS: usize = 16;
+
 // The fields that a kind uses, without the target.
 pub fn value_fields(r: Record) -> bool
     ensures { λ b. ⌜ b ≡ valueFields r ⌝ }
@@ -166,10 +169,10 @@ impl Open {
         ensures { λ r. ⌜ r ≡ ((eqb kind 4 || eqb kind 5) && leb 16 (self .depth)) ⌝ }
     {
         if kind == REPEAT {
-            return 16 <= self.depth;
+            return MOST_BLOCKS <= self.depth;
         }
         if kind == IF {
-            return 16 <= self.depth;
+            return MOST_BLOCKS <= self.depth;
         }
         false
     }
