@@ -80,6 +80,12 @@ impl Acpi {
     pub const PM1CNT_MASK: u16 = 0x1C02;
 
     pub const ALL: u16 = 0xFFFF;
+    // A map value is zero above bit 12, and in bits 9 to 11; bit 8 is its direction.
+    pub const MAP_LAST: u32 = 0x1FFF;
+
+    pub const MAP_ZERO: u32 = 0x0E00;
+
+    pub const MAP_FALL: u16 = 0x0100;
     // Bits of PM1a_STS.
     pub const TMR_STS: u16 = 0x0001;
 
@@ -91,7 +97,13 @@ impl Acpi {
 
     pub const BUTTON_STS: u16 = 0x0800;
 
+    pub const BIT_8_STS: u16 = 0x0100;
+
+    pub const BIT_9_STS: u16 = 0x0200;
+
     pub const WAKE_STS: u16 = 0x8000;
+    // SCI_EN as PM1a_CNT reads it.
+    pub const SCI_EN: u16 = 0x0001;
     // Bit 13 of PM1a_CNT, written 1, puts the chip to sleep.
     pub const SLEEP: u32 = 0x2000;
 
@@ -241,10 +253,10 @@ impl Acpi {
     {
         let target = value % 256;
         if target == 0x08 {
-            return self.raise(0x0100);
+            return self.raise(Acpi::BIT_8_STS);
         }
         if target == 0x09 {
-            return self.raise(0x0200);
+            return self.raise(Acpi::BIT_9_STS);
         }
         if map::is_gpe_target(target) {
             self.gpe0sts = self.gpe0sts | map::gpe_bit(target);
@@ -326,7 +338,7 @@ impl Acpi {
         ensures { λ r. ⌜ r ≡ controlRead self ⌝ }
     {
         if self.scien {
-            return mask::wide16(self.pm1cnt | 0x0001);
+            return mask::wide16(self.pm1cnt | Acpi::SCI_EN);
         }
         mask::wide16(self.pm1cnt)
     }

@@ -1,4 +1,5 @@
 // The map of a pin: which status bit a change of the pin sets, and in which direction.
+use crate::Acpi;
 ghost use mathlib.Core.Path.{_≡_};
 ghost use mathlib.Core.Bool.{_&&_};
 ghost use Prim.Native.Nat.{_-_, _<_, _≤_, _^_};
@@ -9,10 +10,10 @@ ghost use Rattle.acpi.specs.Map.{legalMap, legalTarget, isGpeTarget};
 pub fn is_legal(value: u32) -> bool
     ensures { λ r. ⌜ r ≡ legalMap value ⌝ }
 {
-    if 0x1FFF < value {
+    if Acpi::MAP_LAST < value {
         return false;
     }
-    if value & 0x0E00 == 0 {
+    if value & Acpi::MAP_ZERO == 0 {
         return is_legal_target((value % 256) as u16);
     }
     false
@@ -54,7 +55,7 @@ pub fn gpe_bit(low: u16) -> u16
 pub fn in_direction(value: u16, old: bool, new: bool) -> bool
     ensures { λ r. ⌜ r ≡ inDirection value old new ⌝ }
 {
-    if mask::has16(value, 0x0100) {
+    if mask::has16(value, Acpi::MAP_FALL) {
         if old {
             return !new;
         }

@@ -45,6 +45,21 @@ impl Monitor {
 
     pub const CLEARED: u8 = 5;
 
+    // Lock, in 40h; INTEN, in 7Ch; VTR, VBAT and VOLT, enabled in 7Eh; VBAT and VTR, seen in 83h.
+    pub const LOCK_BIT: u8 = 0x02;
+
+    pub const INTEN: u8 = 0x04;
+
+    pub const VTR_ENABLE: u8 = 0x10;
+
+    pub const VBAT_ENABLE: u8 = 0x02;
+
+    pub const VOLT_ENABLE: u8 = 0x01;
+
+    pub const VBAT_STATUS: u8 = 0x02;
+
+    pub const VTR_STATUS: u8 = 0x01;
+
     pub const KIND: [u8; 256] = [
         0,
         0,
@@ -915,7 +930,7 @@ impl Monitor {
     fn lock_set(self) -> bool
         ensures { λ r. ⌜ r ≡ lockSet self ⌝ }
     {
-        mask::has(self.registers[0], 0x02)
+        mask::has(self.registers[0], Monitor::LOCK_BIT)
     }
 
     pub fn read_data(self) -> Answer
@@ -987,14 +1002,14 @@ impl Monitor {
     pub fn interrupt(self) -> bool
         ensures { λ r. ⌜ r ≡ interrupt self ⌝ }
     {
-        if mask::has(self.registers[1], 0x04) {
+        if mask::has(self.registers[1], Monitor::INTEN) {
             let enable = self.registers[2];
             let status = self.registers[6];
-            if mask::has(enable, 0x01) {
-                if both(enable, 0x10, status, 0x01) {
+            if mask::has(enable, Monitor::VOLT_ENABLE) {
+                if both(enable, Monitor::VTR_ENABLE, status, Monitor::VTR_STATUS) {
                     return true;
                 }
-                return both(enable, 0x02, status, 0x02);
+                return both(enable, Monitor::VBAT_ENABLE, status, Monitor::VBAT_STATUS);
             }
         }
         false
