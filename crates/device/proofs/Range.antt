@@ -198,7 +198,8 @@ module _ (d : Device) (h : deviceInRange d ≡ true) where
       (kept-acpi (raised (d .acpi) (statusBit kind))
       (kept-raised (d .acpi) acpi-in-range (statusBit kind)
       (branch (λ (b : ℕ). within 0x8F31 b ≡ true) (eqb kind 3) refl
-      (branch (λ (b : ℕ). within 0x8F31 b ≡ true) (eqb kind 4) refl refl)))))))
+      (branch (λ (b : ℕ). within 0x8F31 b ≡ true) (eqb kind 4) refl
+      (branch (λ (b : ℕ). within 0x8F31 b ≡ true) (eqb kind 7) refl refl))))))))
 
 pub accessed-in-range : (d : Device) (x : Access) → deviceInRange d ≡ true → deviceInRange (accessed d x .device) ≡ true
 unfolding accessed

@@ -44,9 +44,9 @@ resetBy d operand =
     cond (eqb operand 0) (pciReset d)
     (cond (eqb operand 1) (vccReset d) (cond (eqb operand 2) (vtrReset d) freshDevice))
 
--- "3 RTC alarm, bit 10; 4 bus master, bit 4; [..] 7 button held, bit 11", of PM1a_STS
+-- "3 RTC alarm, bit 10; 4 bus master, bit 4; [..] 7 button held, bit 11", of PM1a_STS; a kind that is none sets no bit
 abbrev pub statusBit : ℕ → ℕ
-statusBit kind = cond (eqb kind 3) 0x0400 (cond (eqb kind 4) 0x0010 0x0800)
+statusBit kind = cond (eqb kind 3) 0x0400 (cond (eqb kind 4) 0x0010 (cond (eqb kind 7) 0x0800 0))
 
 -- what an event does, before the settling. "2 pin: bits 2 to 0 pin, bit 3 new level"
 unfoldable pub moved : Device → ℕ → ℕ → Device

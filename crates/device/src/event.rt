@@ -51,7 +51,10 @@ fn status_bit(kind: u32) -> u16
     if kind == BUS_MASTER {
         return acpi::Acpi::BM_STS;
     }
-    acpi::Acpi::BUTTON_STS
+    if kind == BUTTON {
+        return acpi::Acpi::BUTTON_STS;
+    }
+    0
 }
 
 impl Device {

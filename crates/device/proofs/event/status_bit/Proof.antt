@@ -14,9 +14,17 @@ returns-2 c = simp (
 
 returns-3 : tie.Need-returns-3
 returns-3 c = simp (
-  ne-eqb _ _ (c .before .if1 .left),
-  ne-eqb _ _ (c .if2 .left),
+  ne-eqb _ _ (c .before .before .if1 .left),
+  ne-eqb _ _ (c .before .if2 .left),
+  eq-eqb _ _ (c .if3 .taken),
+)
+
+returns-4 : tie.Need-returns-4
+returns-4 c = simp (
+  ne-eqb _ _ (c .before .before .if1 .left),
+  ne-eqb _ _ (c .before .if2 .left),
+  ne-eqb _ _ (c .if3 .left),
 )
 
 pub status-bit-spec : {M : Type 1} → statement M
-status-bit-spec = tie.close (tie.spec returns returns-2 returns-3)
+status-bit-spec = tie.close (tie.spec returns returns-2 returns-3 returns-4)
