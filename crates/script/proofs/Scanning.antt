@@ -1,13 +1,13 @@
 -- The scan's loop: what holds before each record, what a fault ends it with, and what a good record leaves.
 -- Assumes nothing.
-use Prim.Native.Nat.{ℕ, zero, suc, _+_, _-_, _*_, _≤_, _<_}
+use Prim.Native.Nat.{ℕ, zero, suc, _+_, _-_, _*_, _%_, _≤_, _<_}
 use mathlib.Core.Path.{_≡_, refl, sym, ap, _∙_, subst}
 use mathlib.Core.Bool.{Bool, true, false, cond, not, _&&_, _||_, or-true}
 use mathlib.Core.List.{List, [], _∷_}
 use native.Mathlib.Numerals.{add-one}
 use native.Mathlib.Omega.{arith}
-use borrow.Author.Tests.{eq-eqb, ne-eqb, le-leb, le-ltb, lt-leb, lt-ltb, eqb-false, eqb-true}
-use lib.Dec.{eqb, leb}
+use borrow.Author.Tests.{eq-eqb, ne-eqb, le-leb, le-ltb, lt-leb, lt-ltb, eqb-false, eqb-true, ltb-false}
+use lib.Dec.{eqb, leb, ltb}
 use lib.ListN.{length, getD}
 use Rattle.record.specs.Record.{recordAt}
 use Rattle.record.specs.declared.Record.{Record}
@@ -241,6 +241,13 @@ pub scan-length : (bytes : List ℕ) → badLength bytes ≡ true
     → _≡_ {A = Found} (record { number = 1; place = 0; words = 0 }) (scriptScan bytes)
 unfolding scriptScan scriptRefusal
 scan-length bytes h = rw h
+
+pub few-records : (bytes : List ℕ) → badLength bytes ≡ false → recordCount bytes ≤ 1024
+few-records bytes h = pick (not (eqb (length bytes % 12) 0)) h
+  where
+    pick : (a : Bool) → (a || ltb 1024 (recordCount bytes)) ≡ false → recordCount bytes ≤ 1024
+    pick true e = let z : _≡_ {A = ℕ} 0 1 = cc in absurd (omega arith)
+    pick false e = ltb-false 1024 (recordCount bytes) e
 
 module _ (bytes : List ℕ) (s : Found) (e : s ≡ recordsScan bytes) (h : badLength bytes ≡ false) where
   number-is : s .number ≡ firstFault [] 0 (recordsOf bytes) .number

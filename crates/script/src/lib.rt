@@ -7,7 +7,7 @@ ghost use Prim.Native.Nat.{_+_, _*_, _≤_, _<_, _/_};
 ghost use lib.Dec.{eqb, leb};
 ghost use lib.ListN.{length};
 ghost use Rattle.script.specs.Fields.{valueFields, readFields, countFields, noFields};
-ghost use Rattle.script.specs.Refusals.{goodFields, innermost, misplaced, openAfter, givesWord};
+ghost use Rattle.script.specs.Refusals.{badLength, goodFields, innermost, misplaced, openAfter, givesWord};
 ghost use Rattle.script.specs.Scan.{Kept, shapeFault, blocksOf, recordsScan, scriptScan};
 
 // The open blocks, innermost last: a repeat, an if still without an else, an if with its else.
@@ -146,7 +146,8 @@ impl Open {
         if depth == 0 {
             return 0;
         }
-        self.blocks[depth - 1]
+        let at = depth - 1;
+        self.blocks[at]
     }
 
     // An else that is not in an if still without one, or an end with no open block.
@@ -308,25 +309,28 @@ fn scan_records(script: &[u8], count: usize) -> Found
     }
 }
 
+// Refusal 1.
+fn bad_length(script: &[u8]) -> bool
+    ensures { λ r. ⌜ r ≡ badLength (now (script .entry)) ⌝ }
+{
+    if script.len() % 12 != 0 {
+        return true;
+    }
+    1024 < script.len() / 12
+}
+
 // Refusals 1 to 8, or how many words the script gives.
 pub fn scan(script: &[u8]) -> Found
     ensures { λ r. ⌜ r ≡ scriptScan (now (script .entry)) ⌝ }
 {
+    if bad_length(script) {
+        return Found {
+            number: 1,
+            place: 0,
+            words: 0,
+        };
+    }
     let count = script.len() / 12;
-    if script.len() % 12 != 0 {
-        return Found {
-            number: 1,
-            place: 0,
-            words: 0,
-        };
-    }
-    if 1024 < count {
-        return Found {
-            number: 1,
-            place: 0,
-            words: 0,
-        };
-    }
     let s = scan_records(script, count);
     if s.number != 0 {
         return s;

@@ -9,8 +9,8 @@ use Rattle.script.proofs.Open.innermost.Tie as tie
 returns : tie.Need-returns
 returns c = search needs
 
-sub-result : tie.Need-sub-result
-sub-result c = search needs
+sub-at : tie.Need-sub-at
+sub-at c = search needs
 
 element-copy-out-result : tie.Need-element-copy-out-result
 element-copy-out-result c = search needs
@@ -21,4 +21,4 @@ returns-2 c =
     rw (stack-top (c .before .before .args .t1 .depth) (c .before .before .args .t1 .blocks) h)
 
 pub innermost-spec : {M : Type 1} → statement M
-innermost-spec = tie.close (tie.spec returns sub-result element-copy-out-result returns-2)
+innermost-spec = tie.close (tie.spec returns sub-at element-copy-out-result returns-2)
