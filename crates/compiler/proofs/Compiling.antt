@@ -1,13 +1,13 @@
 -- What the compiler answers and leaves in the buffer, from what the scan found and whether the words fit; and that it
 -- refuses exactly when one of refusals 1 to 8 holds of the script or the buffer is shorter than its words.
 -- Assumes nothing.
-use Prim.Native.Nat.{ℕ, _*_, _%_, _≤_, _<_}
+use Prim.Native.Nat.{ℕ, _*_, _%_, _≤_}
 use mathlib.Core.Path.{_≡_, refl, sym, ap, _∙_}
 use mathlib.Core.Bool.{Bool, true, false, cond}
 use mathlib.Core.List.{List, _++_}
 use native.Mathlib.Omega.{arith}
-use borrow.Author.Tests.{eqb-false, eqb-true, le-ltb, lt-ltb, ltb-false, ne-eqb}
-use lib.Dec.{eqb}
+use borrow.Author.Tests.{eqb-false, eqb-true, le-ltb, ltb-false, ne-eqb}
+use lib.Dec.{eqb, ltb}
 use lib.ListN.{length, drop}
 use Rattle.script.specs.Records.{recordCount}
 use Rattle.script.specs.Refusals.{refusal, scriptRefusal, wordsIn}
@@ -45,27 +45,29 @@ module _ (script image : List ℕ) (s : Found) (e : s ≡ scriptScan script) whe
       (rw (n, n, number-is, place-is), rw (n, n))
 
   -- ---- the words do not fit
-  pub unfit : s .number ≡ 0 → length image < 12 * s .words
+  pub unfit : s .number ≡ 0 → ltb (length image) (12 * s .words) ≡ true
       → (_≡_ {A = Compiled} (record { refusal = 9; place = recordCount script % 4096; words = 0 }) (compiled script image))
       × (image ≡ imageAfter script image)
   unfolding compiled imageAfter compileRefusal
   unfit z l =
-      let t : tooShort script image ≡ true = lt-ltb (length image) (12 * wordsIn script) (rw (words-are z) at l) in
+      let t : tooShort script image ≡ true = rw (words-are z) at l in
       let c = counts script (recordCount script) refl (accepted-by z) in
       let p : recordCount script % 4096 ≡ recordCount script = omega arith in
       (rw (accepted-by z, t, p), rw (accepted-by z, t))
 
   -- ---- compiled
-  pub fit : s .number ≡ 0 → 12 * s .words ≤ length image → 12 * length (wordsOf script) ≤ length image
-  fit z l = rw (← (count-words script (accepted-by z))) (rw (words-are z) at l)
+  pub fit : s .number ≡ 0 → ltb (length image) (12 * s .words) ≡ false → 12 * length (wordsOf script) ≤ length image
+  fit z l =
+      rw (← (count-words script (accepted-by z)))
+      (ltb-false (length image) (12 * wordsIn script) (rw (words-are z) at l))
 
-  pub done : (now : List ℕ) → s .number ≡ 0 → 12 * s .words ≤ length image
+  pub done : (now : List ℕ) → s .number ≡ 0 → ltb (length image) (12 * s .words) ≡ false
       → now ≡ imageBytes (wordsOf script) ++ drop (12 * length (wordsOf script)) image
       → (_≡_ {A = Compiled} (record { refusal = 0; place = 0; words = s .words }) (compiled script image))
       × (now ≡ imageAfter script image)
   unfolding compiled imageAfter compileRefusal
   done now z l i =
-      let t : tooShort script image ≡ false = le-ltb (length image) (12 * wordsIn script) (rw (words-are z) at l) in
+      let t : tooShort script image ≡ false = rw (words-are z) at l in
       (rw (accepted-by z, t, words-are z), i ∙ (rw (accepted-by z, t, count-words script (accepted-by z))))
 
 -- "The compiler refuses a script exactly when it meets one of refusals 1 to 8 or the image buffer is shorter than its

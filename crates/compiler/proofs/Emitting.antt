@@ -1,13 +1,12 @@
 -- The loop that writes the image: what holds before each record, what a record leaves, and what the last word completes.
 -- Assumes nothing.
-use Prim.Native.Nat.{ℕ, zero, suc, _+_, _-_, _*_, _%_, _≤_, _<_}
+use Prim.Native.Nat.{ℕ, zero, suc, _+_, _-_, _*_, _≤_, _<_}
 use mathlib.Core.Path.{_≡_, refl, sym, ap, _∙_}
-use mathlib.Core.Bool.{Bool, true, false, cond, not, _||_}
+use mathlib.Core.Bool.{Bool, true, false, cond, _||_}
 use mathlib.Core.List.{List, [], _∷_, _++_, append-assoc}
 use native.Mathlib.Numerals.{add-one}
 use native.Mathlib.Omega.{arith}
-use borrow.Author.Tests.{ltb-false}
-use lib.Dec.{eqb, ltb}
+use lib.Dec.{eqb}
 use lib.ListN.{length, take, drop, length-append}
 use Rattle.record.specs.Record.{bytesOf, recordAt}
 use Rattle.record.specs.declared.Record.{Record}
@@ -31,7 +30,7 @@ use Rattle.script.proofs.Flat.{
   withElse,
   writes,
 }
-use Rattle.script.proofs.Scanning.{length-stack}
+use Rattle.script.proofs.Scanning.{few-records, length-stack}
 use Rattle.compiler.specs.Emit.{ahead, depthAfter, emitFlat, framesAfter, framesOf, gives, Held, wordFor}
 use Rattle.compiler.specs.Words.{halt, imageBytes, wordsOf}
 use Rattle.compiler.specs.declared.Frames.{Frames}
@@ -210,13 +209,8 @@ module _ (script lent image : List ℕ) (count : ℕ) (f : Frames) (place k : �
       i ∙ one-more-word (g .words) halt lent image place (g .many) (g .written) ∙ (rw (e, n))
 
 -- how many records there are, and where they lie
-or-right : (a b : Bool) → (a || b) ≡ false → b ≡ false
-or-right true b e = never (sym e)
-or-right false b e = e
-
 pub counts : (script : List ℕ) (count : ℕ) → count ≡ recordCount script → scriptRefusal script .number ≡ 0
     → (count ≤ 1024) × (12 * count ≤ length script)
 counts script count e h =
-    let l = ltb-false 1024 (recordCount script)
-    (or-right (not (eqb (length script % 12) 0)) (ltb 1024 (recordCount script)) (accepts script h .length-good)) in
+    let l = few-records script (accepts script h .length-good) in
     (omega arith, omega arith)

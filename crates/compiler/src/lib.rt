@@ -4,7 +4,7 @@ ghost use mathlib.Core.Path.{_≡_};
 ghost use mathlib.Core.Bool.{false, cond, _||_};
 ghost use mathlib.Core.List.{_∷_, _++_};
 ghost use Prim.Native.Nat.{suc, _+_, _*_, _-_, _≤_, _<_, _/_};
-ghost use lib.Dec.{eqb};
+ghost use lib.Dec.{eqb, ltb};
 ghost use lib.ListN.{length, take, drop};
 ghost use Rattle.record.specs.Record.{bytesOf};
 ghost use Rattle.script.specs.Records.{recordsFrom, recordsOf};
@@ -89,15 +89,15 @@ fn look(script: &[u8], count: usize, from: usize, place: u32) -> u32
 {
     let mut depth: usize = 0;
     let mut at = place;
-    let mut k = from;
-    while k < count {
-        let r = record::read(script, 12 * k);
+    let mut next = from;
+    while next < count {
+        let r = record::read(script, 12 * next);
         if stops(depth, r.kind) {
             return stopped(at, r.kind);
         }
         at = counted(at, r.kind);
         depth = depth_after(depth, r.kind);
-        k = k + 1;
+        next = next + 1;
     }
     at
 }
@@ -229,8 +229,15 @@ fn put(image: &mut [u8], place: u32, w: Record)
     requires { ⌜ (12 * place + 12 ≤ length (now image)) × (place ≤ 1024) ⌝ }
     ensures { λ _. ⌜ now (image .exit) ≡ take (12 * place) (now (image .entry)) ++ (bytesOf w ++ drop 12 (drop (12 * place) (now (image .entry)))) ⌝ }
 {
-    let at = 12 * index(place);
+    let at = offset(place);
     record::write(&mut image[at..], w);
+}
+
+// Where the word at `place` starts.
+fn offset(place: u32) -> usize
+    ensures { λ r. ⌜ r ≡ 12 * place ⌝ }
+{
+    12 * index(place)
 }
 
 fn index(place: u32) -> usize
@@ -265,6 +272,13 @@ fn emit(script: &[u8], count: usize, image: &mut [u8])
     put(image, place, word(8, 0, 0, 0, 0));
 }
 
+// Refusal 9: a buffer of `length` bytes does not hold so many words.
+fn too_short(length: usize, words: u32) -> bool
+    ensures { λ r. ⌜ r ≡ ltb length (12 * words) ⌝ }
+{
+    length < offset(words)
+}
+
 // The compiler. No byte of the image is written before the script is accepted and its words fit.
 pub fn compile(script: &[u8], image: &mut [u8]) -> Compiled
     ensures { λ r. ⌜ (r ≡ compiled (now (script .entry)) (now (image .entry))) × (now (image .exit) ≡ imageAfter (now (script .entry)) (now (image .entry))) ⌝ }
@@ -278,7 +292,7 @@ pub fn compile(script: &[u8], image: &mut [u8]) -> Compiled
             words: 0,
         };
     }
-    if image.len() < 12 * index(found.words) {
+    if too_short(image.len(), found.words) {
         return Compiled {
             refusal: 9,
             place: (count % 4096) as u32,

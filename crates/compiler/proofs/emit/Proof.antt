@@ -50,7 +50,7 @@ put-requires c κs =
 after-requires : tie.Need-after-requires Inv-loop μ-loop
 after-requires c κs = (
   (c .before .before .before .before .before .before .before .before .before .before .loop .inv .held, omega (arith, few _ _ _ _ _ _ _ (c .before .before .before .before .before .before .before .before .before .before .loop .inv) (c .before .before .before .before .before .before .before .before .before .before .before .before .before .before .pre .0 .1))),
-  opens _ _ _ _ _ _ _ (c .before .before .before .before .before .before .before .before .before .before .loop .inv) _ (c .before .before .before .before .before .before .before .before .before .loop-test .taken) (c .before .before .before .before .before .before .before .before .read .ensures),
+  opens _ _ _ _ _ _ _ (c .before .before .before .before .before .before .before .before .before .before .loop .inv) _ (omega arith) (c .before .before .before .before .before .before .before .before .read .ensures),
 )
 
 add-place : tie.Need-add-place Inv-loop μ-loop
@@ -64,7 +64,7 @@ loop-less c = omega arith
 
 loop-again : tie.Need-loop-again Inv-loop μ-loop
 loop-again c =
-    goes-on _ _ _ _ _ _ _ (c .before .before .before .before .before .before .before .before .before .before .before .loop .inv) _ (c .before .before .before .before .before .before .before .before .before .before .loop-test .taken) (c .before .before .before .before .before .before .before .before .before .read .ensures) _ _ _
+    goes-on _ _ _ _ _ _ _ (c .before .before .before .before .before .before .before .before .before .before .before .loop .inv) _ (omega arith) (c .before .before .before .before .before .before .before .before .before .read .ensures) _ _ _
     (sym (rw (c .before .before .before .before .before .before .before .before .innermost .ensures) at (c .before .before .before .before .before .before .before .gives .ensures)) ∙ c .before .before .before .before .before .before .if1 .taken)
     (rw (c .before .before .before .before .before .before .before .before .innermost .ensures) at (c .before .before .before .before .before .word-of .ensures)) (c .before .before .before .put .ensures) (c .before .before .before .put .kept .0)
     (c .after .ensures .0) (c .after .ensures .1)
@@ -72,7 +72,7 @@ loop-again c =
 after-requires-2 : tie.Need-after-requires-2 Inv-loop μ-loop
 after-requires-2 c κs = (
   (c .before .before .before .before .before .loop .inv .held, omega (arith, few _ _ _ _ _ _ _ (c .before .before .before .before .before .loop .inv) (c .before .before .before .before .before .before .before .before .before .pre .0 .1))),
-  opens _ _ _ _ _ _ _ (c .before .before .before .before .before .loop .inv) _ (c .before .before .before .before .loop-test .taken) (c .before .before .before .read .ensures),
+  opens _ _ _ _ _ _ _ (c .before .before .before .before .before .loop .inv) _ (omega arith) (c .before .before .before .read .ensures),
 )
 
 add-k-2 : tie.Need-add-k-2 Inv-loop μ-loop
@@ -83,7 +83,7 @@ loop-less-2 c = omega arith
 
 loop-again-2 : tie.Need-loop-again-2 Inv-loop μ-loop
 loop-again-2 c =
-    passes _ _ _ _ _ _ _ (c .before .before .before .before .before .before .loop .inv) _ (c .before .before .before .before .before .loop-test .taken) (c .before .before .before .before .read .ensures) _
+    passes _ _ _ _ _ _ _ (c .before .before .before .before .before .before .loop .inv) _ (omega arith) (c .before .before .before .before .read .ensures) _
     (sym (rw (c .before .before .before .innermost .ensures) at (c .before .before .gives .ensures)) ∙ c .before .if1 .left) (c .after2 .ensures .0)
     (c .after2 .ensures .1)
 
@@ -105,7 +105,7 @@ same-length c = c .before .before .put2 .kept .0 ∙ c .before .before .before .
 
 returns : tie.Need-returns Inv-loop μ-loop
 returns c =
-    completes _ _ _ _ _ _ _ (c .before .before .before .before .before .before .loop .inv) _ (c .before .before .before .before .before .loop-test .left) (rw (c .before .before .before .word .ensures) at (c .before .before .put2 .ensures))
+    completes _ _ _ _ _ _ _ (c .before .before .before .before .before .before .loop .inv) _ (omega arith) (rw (c .before .before .before .word .ensures) at (c .before .before .put2 .ensures))
 
 pub emit-spec : {M : Type 1} → statement M
 emit-spec =

@@ -11,12 +11,12 @@ use Rattle.compiler.proofs.look.Statement.{statement}
 use Rattle.compiler.proofs.look.Tie as tie
 
 abbrev Inv-loop : tie.InvT-loop
-Inv-loop script count from place depth₀ at₀ k₀ depth at k =
-    (k ≤ count) × (from ≤ k) × (depth ≤ k - from) × (at ≤ place + (k - from))
-    × (ahead 0 place (recordsFrom (count - from) from script) ≡ ahead depth at (recordsFrom (count - k) k script))
+Inv-loop script count from place depth₀ at₀ next₀ depth at next =
+    (next ≤ count) × (from ≤ next) × (depth ≤ next - from) × (at ≤ place + (next - from))
+    × (ahead 0 place (recordsFrom (count - from) from script) ≡ ahead depth at (recordsFrom (count - next) next script))
 
 abbrev μ-loop : tie.MeasureT-loop
-μ-loop script count from place depth₀ at₀ k₀ depth at k = count - k
+μ-loop script count from place depth₀ at₀ next₀ depth at next = count - next
 
 loop-holds : tie.Need-loop-holds Inv-loop μ-loop
 loop-holds c = (omega arith, omega arith, omega arith, omega arith, refl)
@@ -46,8 +46,8 @@ counted-requires c κs = omega (arith, c .before .before .before .before .loop .
 depth-after-requires : tie.Need-depth-after-requires Inv-loop μ-loop
 depth-after-requires c κs = omega (arith, c .before .before .before .before .before .loop .inv)
 
-add-k : tie.Need-add-k Inv-loop μ-loop
-add-k c = omega arith
+add-next : tie.Need-add-next Inv-loop μ-loop
+add-next c = omega arith
 
 loop-less : tie.Need-loop-less Inv-loop μ-loop
 loop-less c = omega arith
@@ -84,7 +84,7 @@ look-spec =
     returns
     counted-requires
     depth-after-requires
-    add-k
+    add-next
     loop-less
     loop-again
     returns-2)

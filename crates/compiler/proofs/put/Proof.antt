@@ -1,5 +1,5 @@
 -- `compiler::put` meets its contract. Assumes nothing.
-use Prim.Native.Nat.{_-_, _*_}
+use Prim.Native.Nat.{_-_}
 use lib.ListN.{length}
 use Rattle.record.specs.Record.{bytesOf}
 use mathlib.Core.Path.{refl}
@@ -8,11 +8,8 @@ use borrow.Author.Needs.{needs}
 use Rattle.compiler.proofs.put.Statement.{statement}
 use Rattle.compiler.proofs.put.Tie as tie
 
-index-requires : tie.Need-index-requires
-index-requires c κs = search needs
-
-mul-at : tie.Need-mul-at
-mul-at c = search needs
+offset-requires : tie.Need-offset-requires
+offset-requires c κs = search needs
 
 sub-write : tie.Need-sub-write
 sub-write c = search needs
@@ -31,18 +28,17 @@ same-length c = search needs
 
 returns : tie.Need-returns
 returns c =
-    rw (← (c .before .before .before .before .index .ensures))
+    rw (← (c .before .before .before .before .offset .ensures))
     (put-part (c .before .before .before .before .before .before .args .image .now) (c .before .before .write .last .0) (bytesOf (c .before .before .before .before .before .before .args .w))
-    (12 * c .before .before .before .before .index .result)
-    (length (c .before .before .before .before .before .before .args .image .now) - 12 * c .before .before .before .before .index .result) refl
+    (c .before .before .before .before .offset .result)
+    (length (c .before .before .before .before .before .before .args .image .now) - c .before .before .before .before .offset .result) refl
     (c .before .before .write .ensures))
 
 pub put-spec : {M : Type 1} → statement M
 put-spec =
     tie.close
     (tie.spec
-    index-requires
-    mul-at
+    offset-requires
     sub-write
     part-write-start
     part-write-end
