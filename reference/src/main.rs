@@ -9,13 +9,17 @@ mod configuration;
 mod device;
 mod generate;
 mod monitor;
+mod own_run;
 mod random;
 mod scripts;
+mod sequencer;
 mod state;
 mod stream;
 
 #[cfg(test)]
 mod compiler_tests;
+#[cfg(test)]
+mod run_tests;
 #[cfg(test)]
 mod tests;
 

@@ -604,10 +604,14 @@ fn only_done_accesses_change_the_state() {
             | Reply::Unread
             | Reply::Outputs(_)
             | Reply::State(_)
-            | Reply::Compiled(..) => {
+            | Reply::Compiled(..)
+            | Reply::Set => {
                 assert_eq!(session.device(), &settled);
             }
-            Reply::Access(..) | Reply::Event(_) => assert!(session.device().in_range()),
+            Reply::Ran(ran) if ran.outcome.is_err() => assert_eq!(session.device(), &settled),
+            Reply::Access(..) | Reply::Event(_) | Reply::Ran(_) => {
+                assert!(session.device().in_range());
+            }
             Reply::Loaded | Reply::Fresh => {}
         }
     }
