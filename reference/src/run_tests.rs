@@ -5,10 +5,13 @@ use crate::compiler::{
     SCRIPT_MARK, TEST, WRITE,
 };
 use crate::device::{Access, Answer, Device, Outputs, Width};
+use crate::generate::{self, Source};
+use crate::images::IMAGES;
 use crate::own_run::own_run;
+use crate::runs::RUNS;
 use crate::sequencer::{run, Ended, Ending, Lent, Refusal, Sequencer};
 use crate::state;
-use crate::stream;
+use crate::stream::{self, LINE_LIMIT};
 
 const TICK: u32 = 0x0100_0001;
 const RTC_ALARM: u32 = 0x0300_0000;
@@ -604,10 +607,14 @@ fn refusals_of_runs_come_in_order() {
 
 // The commands.
 
-fn answers(input: &str) -> String {
+fn answers_to(mut input: &[u8]) -> String {
     let mut output = Vec::new();
-    stream::answer_all(&mut input.as_bytes(), &mut output).expect("memory takes everything");
+    stream::answer_all(&mut input, &mut output).expect("memory takes everything");
     String::from_utf8(output).expect("answers are text")
+}
+
+fn answers(input: &str) -> String {
+    answers_to(input.as_bytes())
 }
 
 fn hex(bytes: &[u8]) -> String {
@@ -773,4 +780,84 @@ fn run_commands_that_are_unread() {
     let log = answers("T FFFFFFFF 800 - -");
     assert!(log.starts_with(&format!("ENDED 0 1 0 0 {shown} A0000000A0000001")));
     assert!(log.ends_with("A00007FEA00007FF\n"));
+}
+
+// The random commands.
+
+fn commands(source: &'static Source, seed: u64, count: u64) -> Vec<u8> {
+    let mut commands = Vec::new();
+    generate::write_commands(source, seed, count, &mut commands).expect("memory takes everything");
+    commands
+}
+
+fn lines(commands: &[u8]) -> impl Iterator<Item = &[u8]> {
+    commands.split(|byte| *byte == b'\n')
+}
+
+/// How often each ending and each refusal, by their numbers, answers one of these commands.
+fn outcomes(source: &'static Source, counted: &[u8]) -> ([u32; 25], [u32; 25]) {
+    let commands = commands(source, 1, 6_000);
+    let answers = answers_to(&commands);
+    let (mut endings, mut refusals) = ([0; 25], [0; 25]);
+    for (command, answer) in lines(&commands).zip(answers.lines()) {
+        if !command.starts_with(counted) {
+            continue;
+        }
+        let mut words = answer.split(' ');
+        let counts = match words.next() {
+            Some("ENDED") => &mut endings,
+            Some("REFUSED") => &mut refusals,
+            _ => continue,
+        };
+        let number: usize = words
+            .next()
+            .and_then(|word| word.parse().ok())
+            .expect("a number");
+        counts[number] += 1;
+    }
+    (endings, refusals)
+}
+
+#[test]
+fn random_scripts_end_in_every_way() {
+    let (endings, refusals) = outcomes(&RUNS, b"T ");
+    assert!(endings[0] >= 2_000, "{endings:?}");
+    for number in [19, 24] {
+        assert!(endings[number] >= 300, "{number}: {endings:?}");
+    }
+    for number in [11, 12] {
+        assert!(refusals[number] >= 100, "{number}: {refusals:?}");
+    }
+    assert!(
+        refusals[1..=8].iter().all(|count| *count >= 5),
+        "{refusals:?}"
+    );
+    // A compiled image run from fresh ends in no other way.
+    let named: u32 = [0, 19, 24].iter().map(|number| endings[*number]).sum();
+    assert_eq!(named, endings.iter().sum(), "{endings:?}");
+    assert_eq!((refusals[9], refusals[10]), (0, 0));
+}
+
+#[test]
+fn random_images_end_in_every_way() {
+    let (endings, refusals) = outcomes(&IMAGES, b"X ");
+    for number in [0, 19, 20, 21, 22, 23, 24] {
+        assert!(endings[number] >= 100, "{number}: {endings:?}");
+    }
+    for number in [10, 11, 12] {
+        assert!(refusals[number] >= 100, "{number}: {refusals:?}");
+    }
+}
+
+#[test]
+fn random_runs_are_as_many_as_asked_for() {
+    for source in [&RUNS, &IMAGES] {
+        for seed in 0..6 {
+            for count in [0, 1, 2, 150] {
+                let commands = commands(source, seed, count);
+                assert!(lines(&commands).all(|line| line.len() <= LINE_LIMIT));
+                assert_eq!(answers_to(&commands).lines().count() as u64, count);
+            }
+        }
+    }
 }
