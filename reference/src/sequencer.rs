@@ -9,7 +9,7 @@ use crate::device::{Access, Answer, Device, Event, Width};
 pub const COUNTER_LIMIT: usize = 8;
 pub const EVENT_LIMIT: usize = 4096;
 
-/// The largest value of a delay or an enter, and of a counter.
+/// The largest value of a counter.
 pub const COUNT_LIMIT: u32 = 65_535;
 
 /// A word that is good by itself; whether the image has its target is another matter.
@@ -48,7 +48,7 @@ enum Word {
 
 impl Word {
     /// None is a bad word: a wrong mark, a kind not 1 to 8, or a width, value or unused field wrong.
-    #[inline]
+    #[inline(always)]
     fn decode(bytes: &[u8; RECORD_BYTES]) -> Option<Word> {
         let Record {
             mark,
@@ -63,34 +63,43 @@ impl Word {
         }
         let no_access = width == 0 && port == 0;
         let word = match kind {
-            WRITE if target == 0 => Word::Write {
+            WRITE => Word::Write {
                 width: width_for(width, value)?,
                 port,
                 value,
             },
-            READ if target == 0 && value == 0 => Word::Read {
+            READ => Word::Read {
                 width: width_for(width, value)?,
                 port,
             },
-            DELAY if no_access && target == 0 => Word::Delay {
+            DELAY => Word::Delay {
                 ticks: u16::try_from(value).ok()?,
             },
-            ENTER if no_access && value <= COUNT_LIMIT => Word::Enter {
-                times: value,
+            ENTER => Word::Enter {
+                times: u32::from(u16::try_from(value).ok()?),
                 target,
             },
-            LOOP_END if no_access && value == 0 => Word::LoopEnd { target },
+            LOOP_END => Word::LoopEnd { target },
             TEST => Word::Test {
                 width: width_for(width, value)?,
                 port,
                 mask: value,
                 target,
             },
-            JUMP if no_access && value == 0 => Word::Jump { target },
-            HALT if no_access && target == 0 && value == 0 => Word::Halt,
+            JUMP => Word::Jump { target },
+            HALT => Word::Halt,
             _ => return None,
         };
-        Some(word)
+        let unused_are_zero = match kind {
+            WRITE => target == 0,
+            READ => target == 0 && value == 0,
+            DELAY => no_access && target == 0,
+            ENTER => no_access,
+            LOOP_END | JUMP => no_access && value == 0,
+            TEST => true,
+            _ => no_access && target == 0 && value == 0,
+        };
+        unused_are_zero.then_some(word)
     }
 
     /// Kinds 4 to 7 use their target.
@@ -264,7 +273,7 @@ pub fn run<O: Observer>(
         log: lent.log,
         logged: 0,
         device,
-        sequencer,
+        sequencer: *sequencer,
         observer,
     };
     let budget = u64::from(lent.budget);
@@ -283,6 +292,7 @@ pub fn run<O: Observer>(
             Err(fault) => break fault,
         }
     };
+    *sequencer = run.sequencer;
     Ok(Ended {
         ending,
         steps,
@@ -298,14 +308,14 @@ struct Run<'a, O> {
     log: &'a mut [u32],
     logged: usize,
     device: &'a mut Device,
-    sequencer: &'a mut Sequencer,
+    sequencer: Sequencer,
     observer: &'a mut O,
 }
 
 impl<O: Observer> Run<'_, O> {
     /// Executes the word at the place, and says whether it was a halt. A faulting word does nothing
     /// and takes no event.
-    #[inline]
+    #[inline(always)]
     fn step(&mut self) -> Result<bool, Ending> {
         let word = self
             .words
