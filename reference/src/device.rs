@@ -114,8 +114,20 @@ pub struct Outputs {
     pub monitor: bool,
 }
 
+/// One access of a run with its whole answer: status, value and the outputs afterwards. A test is
+/// listed as a read.
+#[derive(Clone, Copy, Debug, PartialEq, Eq)]
+pub struct Access {
+    pub width: Width,
+    pub port: u16,
+    /// The value of a write; none for a read.
+    pub written: Option<u32>,
+    pub answer: Answer,
+    pub outputs: Outputs,
+}
+
 #[derive(Clone, Copy, Debug, PartialEq, Eq, PartialOrd, Ord)]
-enum Reset {
+pub enum Reset {
     Pci,
     Vcc,
     Vtr,
@@ -123,7 +135,7 @@ enum Reset {
 }
 
 #[derive(Clone, Copy, Debug, PartialEq, Eq)]
-enum Event {
+pub enum Event {
     Ticks(u16),
     Pin { pin: usize, level: bool },
     RtcAlarm,
@@ -135,7 +147,7 @@ enum Event {
 
 impl Event {
     /// Kind in the top byte, operand below. Kinds 3, 4 and 7 have operand 0.
-    fn decode(number: u32) -> Option<Event> {
+    pub fn decode(number: u32) -> Option<Event> {
         let operand = number & 0x00FF_FFFF;
         match (number >> 24, operand) {
             (1, _) => Some(Event::Ticks(u16::try_from(operand).ok()?)),
@@ -206,9 +218,7 @@ impl Device {
     /// A lone read: refused by 11, then by 4.
     pub fn lone_read(&mut self, width: u32, port: u32) -> Result<Answer, Refusal> {
         let (width, port) = self.accepted(width, port)?;
-        let result = self.read(width, port);
-        self.acpi.settle();
-        Ok(Answer::to_read(result, width))
+        Ok(self.answer_read(width, port))
     }
 
     /// A lone write: refused by 11, then by 4.
@@ -217,9 +227,7 @@ impl Device {
         if value > width.all_ones() {
             return Err(Refusal::BadAccess);
         }
-        let result = self.write(width, port, value);
-        self.acpi.settle();
-        Ok(Answer::to_write(result))
+        Ok(self.answer_write(width, port, value))
     }
 
     /// A lone event: refused by 11, then by 12.
@@ -228,9 +236,29 @@ impl Device {
             return Err(Refusal::StateOutOfRange);
         }
         let event = Event::decode(number).ok_or(Refusal::BadEvent)?;
+        self.happen(event);
+        Ok(())
+    }
+
+    /// A read, and what settles behind it. The device is in range and stays so.
+    pub fn answer_read(&mut self, width: Width, port: u16) -> Answer {
+        let result = self.read(width, port);
+        self.acpi.settle();
+        Answer::to_read(result, width)
+    }
+
+    /// A write whose value fits the width, and what settles behind it. The device is in range and
+    /// stays so.
+    pub fn answer_write(&mut self, width: Width, port: u16, value: u32) -> Answer {
+        let result = self.write(width, port, value);
+        self.acpi.settle();
+        Answer::to_write(result)
+    }
+
+    /// An event, and what settles behind it. The device is in range and stays so.
+    pub fn happen(&mut self, event: Event) {
         self.apply(event);
         self.acpi.settle();
-        Ok(())
     }
 
     fn accepted(&self, width: u32, port: u32) -> Result<(Width, u16), Refusal> {

@@ -10,7 +10,7 @@ use crate::device::Device;
 use crate::random::Random;
 use crate::scripts;
 use crate::state::{self, StateBytes};
-use crate::stream::{Session, LINE_LIMIT};
+use crate::stream::{Reply, Session, LINE_LIMIT};
 
 const INDEX_PORT: u32 = 0x2E;
 const DATA_PORT: u32 = 0x2F;
@@ -108,8 +108,13 @@ const TIMERS: [u32; 14] = [
 ];
 
 /// Writes exactly so many commands. The last line feed is left out at times.
-pub fn write_commands(seed: u64, count: u64, output: &mut impl Write) -> io::Result<()> {
-    let mut generator = Generator::new(seed);
+pub fn write_commands(
+    source: &'static Source,
+    seed: u64,
+    count: u64,
+    output: &mut impl Write,
+) -> io::Result<()> {
+    let mut generator = Generator::new(source, seed);
     let mut last_is_empty = false;
     for written in 0..count {
         if written > 0 {
@@ -126,18 +131,32 @@ pub fn write_commands(seed: u64, count: u64, output: &mut impl Write) -> io::Res
     Ok(())
 }
 
-struct Generator {
-    random: Random,
-    /// The device as it stands behind the commands planned so far.
-    session: Session,
+pub struct Generator {
+    source: &'static Source,
+    pub random: Random,
+    /// The device and the sequencer as they stand behind the commands planned so far.
+    pub session: Session,
     planned: VecDeque<Vec<u8>>,
     ranged_fields: Vec<(usize, usize)>,
 }
 
-type Scenario = fn(&mut Generator);
+pub type Scenario = fn(&mut Generator);
 
-/// What may come next, with weights.
-const SCENARIOS: [(u32, Scenario); 24] = [
+/// Where commands come from.
+pub struct Source {
+    /// What may come next, with weights.
+    pub scenarios: &'static [(u32, Scenario)],
+    /// Whether the state or the outputs are looked at in between.
+    pub looks: bool,
+}
+
+/// Commands of all kinds.
+pub const ANYTHING: Source = Source {
+    scenarios: &SCENARIOS,
+    looks: true,
+};
+
+const SCENARIOS: [(u32, Scenario); 27] = [
     (6, Generator::place_blocks),
     (10, Generator::poke_configuration),
     (5, Generator::drive_key_control),
@@ -162,11 +181,15 @@ const SCENARIOS: [(u32, Scenario); 24] = [
     (22, Generator::damaged_event),
     (48, Generator::malformed),
     (24, Generator::compile_script),
+    (4, Generator::run_script),
+    (4, Generator::run_image),
+    (3, Generator::set_sequencer),
 ];
 
 impl Generator {
-    fn new(seed: u64) -> Self {
+    fn new(source: &'static Source, seed: u64) -> Self {
         Generator {
+            source,
             random: Random::new(seed),
             session: Session::new(),
             planned: VecDeque::new(),
@@ -184,14 +207,18 @@ impl Generator {
     }
 
     fn plan(&mut self) {
-        let total = SCENARIOS.iter().map(|(weight, _)| weight).sum();
+        let scenarios = self.source.scenarios;
+        let total = scenarios.iter().map(|(weight, _)| weight).sum();
         let mut draw = self.random.below(total);
-        for (weight, scenario) in SCENARIOS {
-            if draw < weight {
+        for (weight, scenario) in scenarios {
+            if draw < *weight {
                 scenario(self);
                 break;
             }
             draw -= weight;
+        }
+        if !self.source.looks {
+            return;
         }
         match self.random.below(12) {
             0..=5 => self.line(b"S"),
@@ -203,15 +230,20 @@ impl Generator {
         }
     }
 
-    fn device(&self) -> &Device {
+    pub fn device(&self) -> &Device {
         self.session.device()
     }
 
     // Lines.
 
-    fn line(&mut self, line: &[u8]) {
-        self.session.answer(line);
+    pub fn line(&mut self, line: &[u8]) {
+        self.answered_line(line);
+    }
+
+    /// Plans a line and gives the answer to it.
+    pub fn answered_line(&mut self, line: &[u8]) -> Reply {
         self.planned.push_back(line.to_vec());
+        self.session.answer(line)
     }
 
     fn read(&mut self, width: u32, port: u32) {
@@ -229,7 +261,7 @@ impl Generator {
         self.line(&line);
     }
 
-    fn load(&mut self, bytes: &StateBytes) {
+    pub fn load(&mut self, bytes: &StateBytes) {
         let line = self.load_line(bytes);
         self.line(&line);
     }
@@ -860,7 +892,7 @@ impl Generator {
     }
 
     /// A state in range; settled or not.
-    fn good_state(&mut self) -> StateBytes {
+    pub fn good_state(&mut self) -> StateBytes {
         let mut device = self.device().clone();
         if !device.in_range() {
             device = Device::fresh();
@@ -931,7 +963,7 @@ impl Generator {
         state::encode(&device)
     }
 
-    fn load_good(&mut self) {
+    pub fn load_good(&mut self) {
         let bytes = self.good_state();
         self.load(&bytes);
         if self.random.one_in(2) {
@@ -1028,7 +1060,7 @@ impl Generator {
         self.load(&before);
     }
 
-    fn boundary_state(&mut self, before: &StateBytes) -> StateBytes {
+    pub fn boundary_state(&mut self, before: &StateBytes) -> StateBytes {
         let mut bytes = *before;
         for _ in 0..8 {
             bytes = *before;
@@ -1146,7 +1178,7 @@ impl Generator {
     /// A sound command to damage.
     fn sound_line(&mut self) -> Vec<u8> {
         let (offset, width) = self.random.pick(&ACPI_REGISTERS);
-        match self.random.below(9) {
+        match self.random.below(10) {
             0 | 1 => self.read_line(width, ACPI_PORT + offset),
             2 | 3 => {
                 let value = self.acpi_value(offset, width);
@@ -1156,6 +1188,7 @@ impl Generator {
             5 => self.event_line(0x0300_0000),
             6 => self.random.pick(&[b"O", b"S", b"F"]).to_vec(),
             7 => scripts::short_command(&mut self.random),
+            8 => self.sound_run_line(),
             _ => {
                 let bytes = self.good_state();
                 self.load_line(&bytes)
@@ -1165,7 +1198,16 @@ impl Generator {
 
     /// A line that is `UNREAD`, or nearly.
     fn malformed(&mut self) {
-        let mut line = self.sound_line();
+        if self.random.one_in(260) {
+            let line = self.long_line();
+            return self.line(&line);
+        }
+        let line = self.sound_line();
+        self.damage_line(line);
+    }
+
+    /// A line with one thing wrong, or nearly; no longer than lines may be, if it was short.
+    pub fn damage_line(&mut self, mut line: Vec<u8>) {
         let place = self.random.below(line.len() as u32) as usize;
         let end = line.len();
         match self.random.below(22) {
@@ -1281,14 +1323,29 @@ impl Generator {
                     b"C C  ",
                     b"C 4001",
                     b"C 10000000C",
+                    b"Q",
+                    b"Q ",
+                    b"q",
+                    b"Q 0 0 0 0 0 0 0 0 0",
+                    b"Q 0 0 0 0 0 0 0 0 0 0 0",
+                    b"Q 0 0 0 0 0 0 0 0 0 0",
+                    b"X",
+                    b"X 0 0 - -",
+                    b"X 0 0 -",
+                    b"X 0 0 - - -",
+                    b"T",
+                    b"T 1 1 - -",
+                    b"T 1 1 - ",
+                    b"T 1 1  -",
+                    b"T 1 1 -- -",
+                    b"T 1 801 - -",
+                    b"T 1 800 - -",
+                    b"T 1 1 0000 -",
+                    b"t 1 1 - -",
                 ];
                 line = self.random.pick(strange).to_vec();
             }
-            _ => {
-                if self.random.one_in(12) {
-                    line = self.long_line();
-                }
-            }
+            _ => {}
         }
         line.retain(|byte| *byte != b'\n');
         self.line(&line);
@@ -1306,7 +1363,7 @@ impl Generator {
                 .random
                 .pick(&[0x00, 0x0D, 0x09, 0x0B, 0x0C, 0x1A, 0x1B, 0x7F]),
             1 => self.random.byte() | 0x80,
-            2 => self.random.pick(b"RWEOSLF 0123456789ABCDEFabcdef"),
+            2 => self.random.pick(b"RWEOSLFCQXT- 0123456789ABCDEFabcdef"),
             _ => self.random.byte(),
         };
         if byte == b'\n' {

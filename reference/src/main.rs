@@ -8,47 +8,76 @@ mod compiler;
 mod configuration;
 mod device;
 mod generate;
+mod images;
 mod monitor;
+mod own_run;
+mod programs;
 mod random;
+mod runs;
 mod scripts;
+mod sequencer;
 mod state;
 mod stream;
 
 #[cfg(test)]
 mod compiler_tests;
 #[cfg(test)]
+mod run_tests;
+#[cfg(test)]
 mod tests;
 
 use std::io::{self, BufReader, BufWriter, Write};
 use std::process::ExitCode;
 
+use generate::{Source, ANYTHING};
+use images::IMAGES;
+use runs::RUNS;
+
 const USAGE: &str = "\
 usage: reference answer                read commands on standard input, print the expected answers
        reference generate SEED COUNT   print COUNT random commands (both numbers decimal)
        reference scripts SEED COUNT    print COUNT random compile commands
+       reference runs SEED COUNT       print COUNT random commands, most of them run scripts
+       reference images SEED COUNT     print COUNT random commands, most of them run images
 ";
 
 const BUFFER_BYTES: usize = 1 << 16;
 
 enum Task {
     Answer,
-    Generate { seed: u64, count: u64 },
-    Scripts { seed: u64, count: u64 },
+    /// Commands from a source.
+    Commands {
+        source: &'static Source,
+        seed: u64,
+        count: u64,
+    },
+    Scripts {
+        seed: u64,
+        count: u64,
+    },
 }
 
 fn task(arguments: &[String]) -> Option<Task> {
-    match arguments {
-        [name] if name == "answer" => Some(Task::Answer),
-        [name, seed, count] if name == "generate" => Some(Task::Generate {
-            seed: seed.parse().ok()?,
-            count: count.parse().ok()?,
-        }),
-        [name, seed, count] if name == "scripts" => Some(Task::Scripts {
-            seed: seed.parse().ok()?,
-            count: count.parse().ok()?,
-        }),
-        _ => None,
+    let (name, numbers) = arguments.split_first()?;
+    if name == "answer" && numbers.is_empty() {
+        return Some(Task::Answer);
     }
+    let [seed, count] = numbers else {
+        return None;
+    };
+    let (seed, count) = (seed.parse().ok()?, count.parse().ok()?);
+    let source = match name.as_str() {
+        "generate" => &ANYTHING,
+        "runs" => &RUNS,
+        "images" => &IMAGES,
+        "scripts" => return Some(Task::Scripts { seed, count }),
+        _ => return None,
+    };
+    Some(Task::Commands {
+        source,
+        seed,
+        count,
+    })
 }
 
 fn run(task: Task) -> io::Result<()> {
@@ -58,7 +87,11 @@ fn run(task: Task) -> io::Result<()> {
             let mut input = BufReader::with_capacity(BUFFER_BYTES, io::stdin().lock());
             stream::answer_all(&mut input, &mut output)?;
         }
-        Task::Generate { seed, count } => generate::write_commands(seed, count, &mut output)?,
+        Task::Commands {
+            source,
+            seed,
+            count,
+        } => generate::write_commands(source, seed, count, &mut output)?,
         Task::Scripts { seed, count } => scripts::write_scripts(seed, count, &mut output)?,
     }
     output.flush()

@@ -58,6 +58,17 @@ const REGISTERS: [Register; REGISTER_COUNT] = [
     register(0xB7, Kind::ReadWrite, 0x00, 0x0F, true),
 ];
 
+/// The place of each index in the table above; none for those not listed.
+const PLACES: [Option<usize>; 256] = {
+    let mut places = [None; 256];
+    let mut place = 0;
+    while place < REGISTER_COUNT {
+        places[REGISTERS[place].index as usize] = Some(place);
+        place += 1;
+    }
+    places
+};
+
 // Places of single registers in the table above.
 const CONFIGURATION: usize = 0;
 const INTERRUPT_CONTROL: usize = 3;
@@ -114,10 +125,7 @@ impl Monitor {
 
     /// The place of the register that the index names; an index not listed is status 4.
     fn selected(&self) -> Result<usize, Denial> {
-        REGISTERS
-            .iter()
-            .position(|register| register.index == self.index)
-            .ok_or(Denial::NoRegister)
+        PLACES[usize::from(self.index)].ok_or(Denial::NoRegister)
     }
 
     pub fn read_data(&self) -> Result<u8, Denial> {
@@ -172,6 +180,12 @@ mod tests {
         assert!(REGISTERS
             .iter()
             .all(|register| register.reset & !register.mask == 0));
+        for (index, place) in PLACES.iter().enumerate() {
+            let listed = REGISTERS
+                .iter()
+                .position(|register| usize::from(register.index) == index);
+            assert_eq!(*place, listed);
+        }
         assert_eq!(REGISTERS[CONFIGURATION].index, 0x40);
         assert_eq!(REGISTERS[INTERRUPT_CONTROL].index, 0x7C);
         assert_eq!(REGISTERS[INTERRUPT_ENABLE].index, 0x7E);

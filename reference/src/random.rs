@@ -47,6 +47,19 @@ impl Random {
         }
     }
 
+    /// A byte string in digits of one case.
+    pub fn digits(&mut self, bytes: &[u8]) -> String {
+        let digits: &[u8; 16] = match self.one_in(4) {
+            true => b"0123456789abcdef",
+            false => b"0123456789ABCDEF",
+        };
+        let digit = |number: u8| char::from(digits[usize::from(number)]);
+        bytes
+            .iter()
+            .flat_map(|byte| [digit(byte >> 4), digit(byte & 0x0F)])
+            .collect()
+    }
+
     /// A number of so many bits: often 0, all ones or a single bit.
     pub fn bits(&mut self, bits: u32) -> u32 {
         let all = u32::MAX >> 32u32.saturating_sub(bits).min(31);

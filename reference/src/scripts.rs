@@ -29,8 +29,14 @@ pub fn any_command(random: &mut Random) -> Vec<u8> {
     if random.one_in(100) {
         return unread_command(random);
     }
+    let script = any_script(random);
+    Maker { random }.command(&script)
+}
+
+/// A script of any size, sound, at the limits or damaged.
+pub fn any_script(random: &mut Random) -> Vec<u8> {
     let mut maker = Maker { random };
-    let script = match maker.random.below(100) {
+    match maker.random.below(100) {
         0..=7 => maker.sound(3),
         8..=39 => maker.sound(40),
         40..=45 => maker.sound(250),
@@ -41,8 +47,7 @@ pub fn any_command(random: &mut Random) -> Vec<u8> {
         86..=90 => maker.damaged_length(),
         91..=95 => maker.too_deep(),
         _ => maker.too_many_words(),
-    };
-    maker.command(&script)
+    }
 }
 
 /// A compile command with a short script.
@@ -60,7 +65,7 @@ pub fn short_command(random: &mut Random) -> Vec<u8> {
 fn unread_command(random: &mut Random) -> Vec<u8> {
     let mut maker = Maker { random };
     let script = maker.sound(6);
-    let digits = maker.digits(&script);
+    let digits = maker.random.digits(&script);
     let limit = COMPILE_LIMIT as u32;
     let line = match maker.random.below(10) {
         0 => format!("C {:X} {digits}", limit + 1 + maker.random.below(12)),
@@ -79,7 +84,7 @@ fn unread_command(random: &mut Random) -> Vec<u8> {
                 long.extend_from_slice(&maker.plain().encode());
             }
             long.truncate(length);
-            format!("C 10 {}", maker.digits(&long))
+            format!("C 10 {}", maker.random.digits(&long))
         }
     };
     line.into_bytes()
@@ -550,7 +555,7 @@ impl Maker<'_> {
         let mut line = format!("C {}", self.random.writing(length as u32));
         if !script.is_empty() {
             line.push(' ');
-            line.push_str(&self.digits(script));
+            line.push_str(&self.random.digits(script));
         }
         line.into_bytes()
     }
@@ -577,19 +582,8 @@ impl Maker<'_> {
         };
         length.min(COMPILE_LIMIT)
     }
-
-    fn digits(&mut self, bytes: &[u8]) -> String {
-        let lower = self.random.one_in(4);
-        bytes
-            .iter()
-            .map(|byte| match lower {
-                true => format!("{byte:02x}"),
-                false => format!("{byte:02X}"),
-            })
-            .collect()
-    }
 }
 
-fn encode(script: &[Record]) -> Vec<u8> {
+pub fn encode(script: &[Record]) -> Vec<u8> {
     script.iter().flat_map(Record::encode).collect()
 }

@@ -3,15 +3,30 @@
 use std::fmt;
 use std::io::{self, BufRead, Write};
 
-use crate::compiler;
-use crate::device::{Answer, Device, Outputs, Refusal};
+use crate::compiler::{self, RECORD_BYTES, WORD_LIMIT};
+use crate::device::{Access, Answer, Device, Outputs, Refusal};
+use crate::own_run::{own_run, OwnRun};
+use crate::sequencer::{self, Ended, Ending, Lent, Sequencer, COUNTER_LIMIT};
 use crate::state::{self, StateBytes};
 
 /// A line may have at most this many bytes before its line feed.
 pub const LINE_LIMIT: usize = 65_536;
 
-/// The image buffer of a compile command has at most this many bytes, and its script too.
+/// The image buffer of a compile command has at most this many bytes, and its script too; so have
+/// the image and the script of a run.
 pub const COMPILE_LIMIT: usize = 16_384;
+
+/// The log of a run has at most this many values.
+pub const LOG_LIMIT: usize = 2_048;
+
+/// A run is given at most this many events.
+pub const EVENTS_READ: usize = 4_352;
+
+/// Before a run, value k of the log is this and k.
+const LOG_LENT: u32 = 0xA000_0000;
+
+/// A script's own run is given up beyond this many steps.
+pub const OWN_RUN_STEPS: u64 = 1 << 18;
 
 /// Before the compiler is called, byte k of the buffer is k modulo this.
 const BUFFER_CYCLE: usize = 251;
@@ -20,7 +35,10 @@ const BUFFER_CYCLE: usize = 251;
 const NUMBER_DIGITS: usize = 8;
 
 /// More words than the longest command has.
-const WORD_LIMIT: usize = 5;
+const COMMAND_WORDS: usize = 12;
+
+/// An empty byte string in the commands that run something.
+const NOTHING: &[u8] = b"-";
 
 enum Command {
     Read { width: u32, port: u32 },
@@ -31,6 +49,18 @@ enum Command {
     Load(Box<StateBytes>),
     Fresh,
     Compile { length: usize, script: Vec<u8> },
+    Sequencer(Sequencer),
+    RunImage(Request),
+    RunScript(Request),
+}
+
+/// What `X` and `T` ask for.
+struct Request {
+    budget: u32,
+    size: usize,
+    events: Vec<u32>,
+    /// The image or the script.
+    bytes: Vec<u8>,
 }
 
 impl Command {
@@ -41,7 +71,7 @@ impl Command {
         }
         // Words are separated by exactly one space, so two spaces enclose an empty word, which is
         // no number. Words beyond the limit stay joined; no command has so many.
-        let words: Vec<&[u8]> = line.splitn(WORD_LIMIT, |byte| *byte == b' ').collect();
+        let words: Vec<&[u8]> = line.splitn(COMMAND_WORDS, |byte| *byte == b' ').collect();
         match words.as_slice() {
             [b"R", width, port] => Some(Command::Read {
                 width: number(width)?,
@@ -65,8 +95,39 @@ impl Command {
                 length: buffer_length(length)?,
                 script: script_bytes(script)?,
             }),
+            [b"Q"] => Some(Command::Sequencer(Sequencer::fresh())),
+            [b"Q", place, used, counters @ ..] => Some(Command::Sequencer(Sequencer {
+                place: number(place)?,
+                used: number(used)?,
+                counters: eight_numbers(counters)?,
+            })),
+            [b"X", budget, size, events, image] => Some(Command::RunImage(Request::parse(
+                budget, size, events, image,
+            )?)),
+            [b"T", budget, size, events, script] => Some(Command::RunScript(Request::parse(
+                budget, size, events, script,
+            )?)),
             _ => None,
         }
+    }
+}
+
+impl Request {
+    fn parse(budget: &[u8], size: &[u8], events: &[u8], bytes: &[u8]) -> Option<Request> {
+        let request = Request {
+            budget: number(budget)?,
+            size: usize::try_from(number(size)?).ok()?,
+            events: event_numbers(&bytes_or_nothing(events)?)?,
+            bytes: bytes_or_nothing(bytes)?,
+        };
+        let within_limits = request.size <= LOG_LIMIT
+            && request.events.len() <= EVENTS_READ
+            && request.bytes.len() <= COMPILE_LIMIT;
+        within_limits.then_some(request)
+    }
+
+    fn log(&self) -> Vec<u32> {
+        (LOG_LENT..).take(self.size).collect()
     }
 }
 
@@ -109,6 +170,27 @@ fn script_bytes(word: &[u8]) -> Option<Vec<u8>> {
         .then_some(script)
 }
 
+/// A byte string, or `-` in the place of an empty one.
+fn bytes_or_nothing(word: &[u8]) -> Option<Vec<u8>> {
+    match word {
+        NOTHING => Some(Vec::new()),
+        b"" => None,
+        digits => byte_string(digits),
+    }
+}
+
+/// Four bytes for each event, least byte first.
+fn event_numbers(bytes: &[u8]) -> Option<Vec<u32>> {
+    let (events, rest) = bytes.as_chunks();
+    let numbers = || events.iter().map(|event| u32::from_le_bytes(*event));
+    rest.is_empty().then(|| numbers().collect())
+}
+
+fn eight_numbers(words: &[&[u8]]) -> Option<[u32; COUNTER_LIMIT]> {
+    let numbers: Option<Vec<u32>> = words.iter().map(|word| number(word)).collect();
+    numbers?.try_into().ok()
+}
+
 fn hex_digit(digit: u8) -> Option<u8> {
     match digit {
         b'0'..=b'9' => Some(digit - b'0'),
@@ -130,7 +212,72 @@ pub enum Reply {
     Fresh,
     /// What the compiler gave, and the whole buffer afterwards.
     Compiled(Result<usize, compiler::Refusal>, Vec<u8>),
+    /// The sequencer is set.
+    Set,
+    Ran(Box<Ran>),
     Unread,
+}
+
+/// A run, refused or not, and what it leaves.
+#[derive(Clone, Debug, PartialEq, Eq)]
+pub struct Ran {
+    pub outcome: Result<Ended, RunRefusal>,
+    pub sequencer: Sequencer,
+    pub state: StateBytes,
+    pub log: Vec<u32>,
+}
+
+/// The compiler's or the sequencer's refusal.
+#[derive(Clone, Copy, Debug, PartialEq, Eq)]
+pub struct RunRefusal {
+    pub number: u32,
+    pub place: usize,
+}
+
+impl From<compiler::Refusal> for RunRefusal {
+    fn from(refusal: compiler::Refusal) -> Self {
+        RunRefusal {
+            number: refusal.fault.number(),
+            place: refusal.place,
+        }
+    }
+}
+
+impl From<sequencer::Refusal> for RunRefusal {
+    fn from(refusal: sequencer::Refusal) -> Self {
+        RunRefusal {
+            number: refusal.number(),
+            place: refusal.place(),
+        }
+    }
+}
+
+impl fmt::Display for Ran {
+    fn fmt(&self, line: &mut fmt::Formatter<'_>) -> fmt::Result {
+        match &self.outcome {
+            Ok(ended) => write!(
+                line,
+                "ENDED {} {} {} {}",
+                ended.ending.number(),
+                ended.steps,
+                ended.events_taken,
+                ended.values_logged
+            )?,
+            Err(refusal) => write!(line, "REFUSED {} {}", refusal.number, refusal.place)?,
+        }
+        write!(line, " {} {}", self.sequencer.place, self.sequencer.used)?;
+        for counter in self.sequencer.counters {
+            write!(line, " {counter}")?;
+        }
+        line.write_str(" ")?;
+        write_bytes(line, &self.state)?;
+        if !self.log.is_empty() {
+            line.write_str(" ")?;
+        }
+        self.log
+            .iter()
+            .try_for_each(|value| write!(line, "{value:08X}"))
+    }
 }
 
 impl fmt::Display for Reply {
@@ -164,6 +311,8 @@ impl fmt::Display for Reply {
                 }
                 write_bytes(line, image)
             }
+            Reply::Set => line.write_str("SET"),
+            Reply::Ran(ran) => ran.fmt(line),
             Reply::Unread => line.write_str("UNREAD"),
         }
     }
@@ -181,20 +330,26 @@ impl fmt::Display for Outputs {
     }
 }
 
-/// One device driven by commands, fresh at first.
+/// One device and one sequencer driven by commands, fresh at first.
 pub struct Session {
     device: Device,
+    sequencer: Sequencer,
 }
 
 impl Session {
     pub fn new() -> Self {
         Session {
             device: Device::fresh(),
+            sequencer: Sequencer::fresh(),
         }
     }
 
     pub fn device(&self) -> &Device {
         &self.device
+    }
+
+    pub fn sequencer(&self) -> &Sequencer {
+        &self.sequencer
     }
 
     /// Does what the line says and gives its answer.
@@ -234,7 +389,139 @@ impl Session {
                 let outcome = compiler::compile(&script, &mut image);
                 Ok(Reply::Compiled(outcome, image))
             }
+            Command::Sequencer(sequencer) => {
+                self.sequencer = sequencer;
+                Ok(Reply::Set)
+            }
+            Command::RunImage(request) => {
+                let mut log = request.log();
+                let outcome = self.run_image(&request, &mut log);
+                Ok(self.ran(outcome, log))
+            }
+            Command::RunScript(request) => {
+                let mut log = request.log();
+                let outcome = self.run_script(&request, &mut log);
+                Ok(self.ran(outcome, log))
+            }
         }
+    }
+
+    fn ran(&self, outcome: Result<Ended, RunRefusal>, log: Vec<u32>) -> Reply {
+        Reply::Ran(Box::new(Ran {
+            outcome,
+            sequencer: self.sequencer,
+            state: state::encode(&self.device),
+            log,
+        }))
+    }
+
+    fn run_image(&mut self, request: &Request, log: &mut [u32]) -> Result<Ended, RunRefusal> {
+        let lent = Lent {
+            image: &request.bytes,
+            events: &request.events,
+            budget: request.budget,
+            log,
+        };
+        let ended = sequencer::run(lent, &mut self.device, &mut self.sequencer, &mut ())?;
+        Ok(ended)
+    }
+
+    /// The answer is the script's own run wherever that one can give it, and otherwise that of the
+    /// sequencer, which is looked at in both cases.
+    fn run_script(&mut self, request: &Request, log: &mut [u32]) -> Result<Ended, RunRefusal> {
+        let mut image = vec![0; WORD_LIMIT * RECORD_BYTES];
+        let words = compiler::compile(&request.bytes, &mut image)?;
+        image.truncate(words * RECORD_BYTES);
+        sequencer::judge(&self.device, &Sequencer::fresh(), &request.events)?;
+        let own = own_run(&request.bytes, &self.device, &request.events, OWN_RUN_STEPS);
+
+        let mut by_words = ByWords {
+            device: self.device.clone(),
+            sequencer: Sequencer::fresh(),
+            log: log.to_vec(),
+            accesses: Vec::new(),
+        };
+        let lent = Lent {
+            image: &image,
+            events: &request.events,
+            budget: request.budget,
+            log: &mut by_words.log,
+        };
+        let (device, held) = (&mut by_words.device, &mut by_words.sequencer);
+        let ended = match own {
+            // Not even the accesses of a run this long are kept.
+            None => sequencer::run(lent, device, held, &mut ())?,
+            Some(_) => sequencer::run(lent, device, held, &mut by_words.accesses)?,
+        };
+
+        let Some(own) = own else {
+            return Ok(self.leave(ended, by_words, log));
+        };
+        if own.steps > u64::from(request.budget) || own.values.len() > log.len() {
+            by_words.check_stopped(&ended, &own, request);
+            return Ok(self.leave(ended, by_words, log));
+        }
+        let by_own_run = Ended {
+            ending: Ending::Halted,
+            steps: own.steps,
+            events_taken: request.events.len() - own.events_left.len(),
+            values_logged: own.values.len(),
+        };
+        log[..own.values.len()].copy_from_slice(&own.values);
+        self.device = own.device;
+        self.sequencer = Sequencer {
+            place: u32::try_from(words - 1).expect("images are short"),
+            ..Sequencer::fresh()
+        };
+        assert_eq!(ended, by_own_run, "sequencer and own run end the same way");
+        assert_eq!(by_words.accesses, own.accesses, "the accesses are the same");
+        assert_eq!(by_words.device, self.device, "the devices are the same");
+        assert_eq!(
+            by_words.sequencer, self.sequencer,
+            "the sequencer stands on its halt"
+        );
+        assert_eq!(by_words.log, log, "the logs are the same");
+        Ok(by_own_run)
+    }
+
+    fn leave(&mut self, ended: Ended, by_words: ByWords, log: &mut [u32]) -> Ended {
+        self.device = by_words.device;
+        self.sequencer = by_words.sequencer;
+        log.copy_from_slice(&by_words.log);
+        ended
+    }
+}
+
+/// What the compiled script's run on the sequencer leaves.
+struct ByWords {
+    device: Device,
+    sequencer: Sequencer,
+    log: Vec<u32>,
+    accesses: Vec<Access>,
+}
+
+impl ByWords {
+    /// Where budget or log do not suffice for the own run, the sequencer's is the front of it.
+    fn check_stopped(&self, ended: &Ended, own: &OwnRun, request: &Request) {
+        match ended.ending {
+            Ending::BudgetSpent => assert_eq!(ended.steps, u64::from(request.budget)),
+            Ending::LogFull => assert_eq!(ended.values_logged, self.log.len()),
+            other => panic!("a compiled script ends with {}", other.number()),
+        }
+        assert!(ended.steps < own.steps, "the run stops before its end");
+        assert!(
+            own.accesses.starts_with(&self.accesses),
+            "the accesses are those of the own run, in order"
+        );
+        assert_eq!(
+            ended.events_taken,
+            request.events.len().min(self.accesses.len()),
+            "each access takes an event while there are any"
+        );
+        assert!(
+            own.values.starts_with(&self.log[..ended.values_logged]),
+            "the values are those of the own run, in order"
+        );
     }
 }
 

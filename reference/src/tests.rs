@@ -1,7 +1,7 @@
 //! Document 01's cases P1 to P9, the resets, and the stream of docs/CASES.md.
 
 use crate::device::{Answer, Device, Outputs, Refusal};
-use crate::generate;
+use crate::generate::{self, ANYTHING};
 use crate::state::{self, StateBytes};
 use crate::stream::{self, Reply, Session, LINE_LIMIT};
 
@@ -581,7 +581,8 @@ fn generator_writes_the_count() {
     for seed in 0..40 {
         for count in [0, 1, 2, 400] {
             let mut commands = Vec::new();
-            generate::write_commands(seed, count, &mut commands).expect("memory takes everything");
+            generate::write_commands(&ANYTHING, seed, count, &mut commands)
+                .expect("memory takes everything");
             assert_eq!(answers(&commands).lines().count() as u64, count);
         }
     }
@@ -591,7 +592,7 @@ fn generator_writes_the_count() {
 #[test]
 fn only_done_accesses_change_the_state() {
     let mut commands = Vec::new();
-    generate::write_commands(7, 20_000, &mut commands).expect("memory takes everything");
+    generate::write_commands(&ANYTHING, 7, 20_000, &mut commands).expect("memory takes everything");
     let mut session = Session::new();
     for line in commands.split(|byte| *byte == b'\n') {
         let mut settled = session.device().clone();
@@ -604,10 +605,14 @@ fn only_done_accesses_change_the_state() {
             | Reply::Unread
             | Reply::Outputs(_)
             | Reply::State(_)
-            | Reply::Compiled(..) => {
+            | Reply::Compiled(..)
+            | Reply::Set => {
                 assert_eq!(session.device(), &settled);
             }
-            Reply::Access(..) | Reply::Event(_) => assert!(session.device().in_range()),
+            Reply::Ran(ran) if ran.outcome.is_err() => assert_eq!(session.device(), &settled),
+            Reply::Access(..) | Reply::Event(_) | Reply::Ran(_) => {
+                assert!(session.device().in_range());
+            }
             Reply::Loaded | Reply::Fresh => {}
         }
     }
