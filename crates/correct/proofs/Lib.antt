@@ -1,1 +1,9 @@
 pub mod Cases
+pub mod Follows
+pub mod Steps
+pub mod Grows
+pub mod Ports
+pub mod Words
+pub mod Simulation
+pub mod Whole
+pub mod Demand3

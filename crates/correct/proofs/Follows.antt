@@ -1,0 +1,39 @@
+-- A run of an image follows its steps: from one machine to another, as many as the count goes up. Assumes nothing.
+use Prim.Native.Nat.{ℕ, zero, suc, _+_, _-_, _≤_}
+use mathlib.Core.Path.{_≡_, ap, _∙_}
+use mathlib.Core.List.{List}
+use native.Mathlib.Omega.{arith}
+use Rattle.sequencer.specs.Run.{ended, follow, ran}
+use Rattle.sequencer.specs.Step.{Machine, goesOn, halts, stepOf}
+
+-- from a machine, with so many steps made, to a machine, with so many; the counts are the run's own, so nothing is added up
+pub data Reach (image : List ℕ) (room : ℕ) : ℕ → Machine → ℕ → Machine → Type 0 where
+  here : {s : ℕ} {m : Machine} → Reach image room s m s m
+  step : {s t : ℕ} {m n o : Machine} → stepOf image room m ≡ goesOn n → Reach image room (suc s) n t o
+      → Reach image room s m t o
+
+module _ {image : List ℕ} {room : ℕ} where
+  pub then : {s t u : ℕ} {m n o : Machine} → Reach image room s m t n → Reach image room t n u o
+      → Reach image room s m u o
+  then here q = q
+  then (step h p) q = step h (then p q)
+
+  steps-grow : {s t : ℕ} {m n : Machine} → Reach image room s m t n → s ≤ t
+  steps-grow here = omega arith
+  steps-grow (step h p) = let i = steps-grow p in omega arith
+
+  -- what is left of the budget goes down as the steps go up
+  pub follows : {s t : ℕ} {m n : Machine} → Reach image room s m t n → (before after : ℕ) → before + s ≡ after + t
+      → ran image room before s m ≡ ran image room after t n
+  follows {s} {m = m} here before after e =
+      let same : before ≡ after = omega arith in ap (λ (l : ℕ). ran image room l s m) same
+  follows (step h p) zero after e = let i = steps-grow p in absurd (omega arith)
+  follows (step h p) (suc before) after e = rw h (follows p before after (omega arith))
+
+  -- a run that reaches a halt in its budget
+  pub halts-there : {s t : ℕ} {m n : Machine} → Reach image room s m t n → stepOf image room n ≡ halts → (budget : ℕ)
+      → suc t ≤ budget + s
+      → ran image room budget s m ≡ ended 0 (suc t) n
+  halts-there {s} {t} {n = n} p h budget l =
+      follows p budget (suc (budget + s - suc t)) (omega arith)
+      ∙ ap (follow (ran image room (budget + s - suc t) (suc t)) t n) h

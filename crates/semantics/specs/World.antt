@@ -1,0 +1,92 @@
+-- Document 01, "Scripts and images": what a write, a read, a test and a delay do, for the sequencer and for the script's
+-- own run alike.
+use Prim.Native.Nat.{ℕ, _+_, _*_, _^_}
+use mathlib.Core.Bool.{Bool, true, false}
+use mathlib.Core.List.{List, [], _∷_, _++_}
+use Rattle.access.specs.declared.Access.{Access}
+use Rattle.access.specs.declared.Answer.{Answer}
+use Rattle.device.specs.Device.{outputsOf}
+use Rattle.device.specs.Event.{happened}
+use Rattle.device.specs.Reach.{accessed}
+use Rattle.device.specs.declared.Device.{Device}
+use Rattle.device.specs.declared.Outputs.{Outputs}
+use Rattle.device.specs.declared.Reached.{Reached}
+use Rattle.mask.specs.Mask.{hasBit}
+
+-- "Definitions list each write, read and test as one access with its whole answer."
+pub record Made : Type 0 where
+  pub access : Access
+  pub answer : Answer
+  pub outputs : Outputs
+
+-- "device, events left, values logged, accesses"; values and accesses in the order in which they were
+pub record World : Type 0 where
+  pub device : Device
+  pub events : List ℕ
+  pub logged : List ℕ
+  pub accesses : List Made
+
+-- nothing logged, no access made
+abbrev pub startWorld : Device → List ℕ → World
+startWorld d events = record { device = d; events = events; logged = []; accesses = [] }
+
+-- "Before each write, read or test the next event, if any, is applied."
+abbrev pub nextApplied : Device → List ℕ → Device
+nextApplied d [] = d
+nextApplied d (e ∷ es) = happened d e
+
+abbrev pub eventsBehind : List ℕ → List ℕ
+eventsBehind [] = []
+eventsBehind (e ∷ es) = es
+
+-- a test is a read
+abbrev pub writeOf : (port width value : ℕ) → Access
+writeOf p w v = record { write = true; width = w; port = p; value = v }
+
+abbrev pub readOf : (port width : ℕ) → Access
+readOf p w = record { write = false; width = w; port = p; value = 0 }
+
+abbrev pub answerTo : World → Access → Reached
+answerTo w x = accessed (nextApplied (w .device) (w .events)) x
+
+abbrev pub madeOf : Access → Reached → Made
+madeOf x r = record { access = x; answer = r .answer; outputs = outputsOf (r .device) }
+
+-- the world after an access that logs these values
+abbrev pub after : World → Access → List ℕ → World
+after w x values = record {
+  device = answerTo w x .device;
+  events = eventsBehind (w .events);
+  logged = w .logged ++ values;
+  accesses = w .accesses ++ (madeOf x (answerTo w x) ∷ []);
+}
+
+unfoldable pub written : (port width value : ℕ) → World → World
+written p wd v w = after w (writeOf p wd v) []
+
+-- "A read appends its value to the log, at any status"
+unfoldable pub valueRead : (port width : ℕ) → World → ℕ
+valueRead p wd w = answerTo w (readOf p wd) .answer .value
+
+unfoldable pub readLogged : (port width : ℕ) → World → World
+readLogged p wd w = after w (readOf p wd) (valueRead p wd w ∷ [])
+
+-- "a test uses its value likewise and logs nothing"
+unfoldable pub tested : (port width : ℕ) → World → World
+tested p wd w = after w (readOf p wd) []
+
+-- "the value read and the mask in value share a one"
+unfoldable pub sharesOne : (port width mask : ℕ) → World → Bool
+sharesOne p wd m w = hasBit m (valueRead p wd w)
+
+-- "A delay is a tick event of its value and takes none from the list."
+abbrev pub tickEvent : ℕ → ℕ
+tickEvent ticks = 1 * 2 ^ 24 + ticks
+
+unfoldable pub delayed : (ticks : ℕ) → World → World
+delayed n w = record {
+  device = happened (w .device) (tickEvent n);
+  events = w .events;
+  logged = w .logged;
+  accesses = w .accesses;
+}

@@ -1,0 +1,1 @@
+// What a script means when it is run by itself: definitions only (specs/).

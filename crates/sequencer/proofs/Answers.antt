@@ -1,0 +1,83 @@
+-- The run's answer and log from what the code has at its two ends: a refusal, or the end of the words. Assumes nothing.
+use Prim.Native.Nat.{ℕ, _%_, _≤_}
+use mathlib.Core.Path.{_≡_, refl, ap, sym, _∙_}
+use mathlib.Core.Bool.{Bool, true, false, cond, not, _&&_, _||_}
+use mathlib.Core.List.{List}
+use native.Mathlib.Omega.{arith}
+use borrow.Author.Tests.{eq-eqb, ne-eqb, ltb-false}
+use lib.Dec.{eqb, ltb}
+use lib.ListN.{length}
+use Rattle.device.specs.Device.{deviceInRange}
+use Rattle.device.specs.declared.Device.{Device}
+use Rattle.mask.proofs.Every.{and-left, and-right}
+use Rattle.script.specs.Refusals.{Refusal, refusal}
+use Rattle.sequencer.specs.Holds.{EndsAs}
+use Rattle.sequencer.specs.Run.{
+  answerOf,
+  asRefused,
+  badImage,
+  badState,
+  eventsRefusal,
+  filled,
+  imageRun,
+  logAfter,
+  runAnswer,
+  runRefusal,
+  runRefused,
+}
+use Rattle.sequencer.specs.Sequencer.{sequencerInRange}
+use Rattle.sequencer.specs.Word.{imageWords}
+use Rattle.sequencer.specs.declared.Ran.{Ran}
+use Rattle.sequencer.specs.declared.Refused.{Refused}
+use Rattle.sequencer.specs.declared.Sequencer.{Sequencer}
+use Rattle.sequencer.proofs.Faults.{not-false, or-right}
+
+pub refused :
+    (image : List ℕ) (d : Device) (s : Sequencer) (events : List ℕ) (budget : ℕ) (log : List ℕ) (f : Refused)
+    → f ≡ asRefused (runRefusal image d s events) → (f .number ≡ 0 → ⊥)
+    → (runRefused (refusal (f .number) (f .place)) d s ≡ runAnswer image d s events budget log)
+    × (log ≡ logAfter image d s events budget log)
+unfolding runAnswer logAfter
+refused image d s events budget log f e n =
+    let k = ne-eqb (runRefusal image d s events .number) 0 (λ z. n (ap (λ (x : Refused). x .number) e ∙ z)) in
+    (rw (e, k), rw k)
+
+pub done :
+    (image : List ℕ) (d : Device) (s : Sequencer) (events : List ℕ) (budget : ℕ) (log log' : List ℕ) (r : Ran)
+    → runRefusal image d s events .number ≡ 0
+    → EndsAs events log log' r (imageRun image d s events budget (length log))
+    → (r ≡ runAnswer image d s events budget log) × (log' ≡ logAfter image d s events budget log)
+unfolding runAnswer logAfter
+done image d s events budget log log' r z h =
+    let k = eq-eqb (runRefusal image d s events .number) 0 z in
+    (rw k (h .answered), rw k (h .lines))
+
+-- what a run that is not refused starts from
+pub record Allowed (image : List ℕ) (d : Device) (s : Sequencer) (events : List ℕ) : Type 0 where
+  pub image-good : badImage image ≡ false
+  pub device-good : deviceInRange d ≡ true
+  pub sequencer-good : sequencerInRange s ≡ true
+  pub events-good : eventsRefusal events .number ≡ 0
+
+pub allowed :
+    (image : List ℕ) (d : Device) (s : Sequencer) (events : List ℕ) → runRefusal image d s events .number ≡ 0
+    → Allowed image d s events
+unfolding runRefusal
+allowed image d s events h = pick (badImage image) (badState d s) refl refl h
+  where
+    pick : (a b : Bool) → badImage image ≡ a → badState d s ≡ b
+        → _≡_ {A = ℕ} (cond a (refusal 10 0) (cond b (refusal 11 0) (eventsRefusal events)) .number) 0
+        → Allowed image d s events
+    pick true b p q z = absurd (omega (arith, z))
+    pick false true p q z = absurd (omega (arith, z))
+    pick false false p q z =
+        let g = not-false (deviceInRange d && sequencerInRange s) q in
+        record {
+          image-good = p;
+          device-good = and-left (deviceInRange d) (sequencerInRange s) g;
+          sequencer-good = and-right (deviceInRange d) (sequencerInRange s) g;
+          events-good = z;
+        }
+
+pub few-words : (image : List ℕ) → badImage image ≡ false → imageWords image ≤ 1024
+few-words image h = ltb-false 1024 (imageWords image) (or-right (not (eqb (length image % 12) 0)) _ (or-right (eqb (length image) 0) _ h))

@@ -1,0 +1,99 @@
+-- What a word without a fault tells, each kind what it needs. Assumes nothing.
+use Prim.Native.Nat.{ℕ, zero, suc, _≤_, _<_}
+use mathlib.Core.Path.{_≡_, refl, sym, _∙_}
+use mathlib.Core.Bool.{Bool, true, false, cond, not, _&&_, _||_}
+use native.Mathlib.Omega.{arith}
+use borrow.Author.Tests.{leb-true, leb-false, eqb-true}
+use lib.Dec.{eqb, leb}
+use Rattle.mask.proofs.Every.{and-left, and-right}
+use Rattle.record.specs.declared.Record.{Record}
+use Rattle.script.specs.Fields.{countFields}
+use Rattle.sequencer.specs.Step.{aimsBeyond, ninthCounter, noCounter, logFull, wordFault}
+use Rattle.sequencer.specs.Word.{badWord, badWordKind, goodWordFields, usesTarget, wrongWordMark}
+
+pub record Clean (words room used logged : ℕ) (r : Record) : Type 0 where
+  pub good : badWord r ≡ false
+  pub near : aimsBeyond words r ≡ false
+  pub counter : ninthCounter used r ≡ false
+  pub open-loop : noCounter used r ≡ false
+  pub log-room : logFull room logged r ≡ false
+
+pub clean : (words room used logged : ℕ) (r : Record) → wordFault words room used logged r ≡ 0 → Clean words room used logged r
+unfolding wordFault
+clean words room used logged r h =
+    pick (badWord r) (aimsBeyond words r) (ninthCounter used r) (noCounter used r) (logFull room logged r) refl refl refl refl refl h
+  where
+    pick : (a b c d e : Bool) → badWord r ≡ a → aimsBeyond words r ≡ b → ninthCounter used r ≡ c → noCounter used r ≡ d
+        → logFull room logged r ≡ e → _≡_ {A = ℕ} (cond a 20 (cond b 21 (cond c 22 (cond d 23 (cond e 24 0))))) 0
+        → Clean words room used logged r
+    pick true b c d e p q s t u z = absurd (omega (arith, z))
+    pick false true c d e p q s t u z = absurd (omega (arith, z))
+    pick false false true d e p q s t u z = absurd (omega (arith, z))
+    pick false false false true e p q s t u z = absurd (omega (arith, z))
+    pick false false false false true p q s t u z = absurd (omega (arith, z))
+    pick false false false false false p q s t u z =
+        record { good = p; near = q; counter = s; open-loop = t; log-room = u }
+
+pub or-left : (a b : Bool) → (a || b) ≡ false → a ≡ false
+or-left true b h = h
+or-left false b h = refl
+
+pub or-right : (a b : Bool) → (a || b) ≡ false → b ≡ false
+or-right true b h = let z : _≡_ {A = ℕ} 0 1 = cc in absurd (omega arith)
+or-right false b h = h
+
+pub not-false : (a : Bool) → not a ≡ false → a ≡ true
+not-false true h = refl
+not-false false h = let z : _≡_ {A = ℕ} 0 1 = cc in absurd (omega arith)
+
+-- ---- what a kind tells
+pub read-room : (room logged : ℕ) (r : Record) → r .kind ≡ 2 → logFull room logged r ≡ false → logged < room
+read-room room logged r k h = leb-false room logged (rw k at h)
+
+pub loop-open : (used : ℕ) (r : Record) → r .kind ≡ 5 → noCounter used r ≡ false → 0 < used
+loop-open used r k h = some used (rw k at h)
+  where
+    some : (n : ℕ) → eqb n 0 ≡ false → 0 < n
+    some zero e = let z : _≡_ {A = ℕ} 0 1 = cc in absurd (omega arith)
+    some (suc n) e = omega arith
+
+pub enter-room : (used : ℕ) (r : Record) → r .kind ≡ 4 → ninthCounter used r ≡ false → 8 ≤ used → r .value ≡ 0
+enter-room used r k h l = pick (eqb (r .value) 0) refl
+  where
+    e : (not (eqb (r .value) 0) && leb 8 used) ≡ false
+    e = rw k at h
+
+    pick : (b : Bool) → eqb (r .value) 0 ≡ b → r .value ≡ 0
+    pick true p = eqb-true (r .value) 0 p
+    pick false p = absurd (let q = leb-false 8 used (rw p at e) in omega (arith, q, l))
+
+fields : (r : Record) → badWord r ≡ false → goodWordFields r ≡ true
+unfolding badWord
+fields r h = not-false (goodWordFields r) (or-right (badWordKind r) (not (goodWordFields r)) (or-right (wrongWordMark r) _ h))
+
+pub delay-value : (r : Record) → r .kind ≡ 3 → badWord r ≡ false → r .value ≤ 65535
+delay-value r k h =
+    let g : (eqb (r .target) 0 && countFields r) ≡ true = rw k at (fields r h) in
+    let c = and-right (eqb (r .target) 0) (countFields r) g in
+    leb-true (r .value) 65535 (and-right (eqb (r .port) 0) (leb (r .value) 65535) (and-right (eqb (r .width) 0) _ c))
+
+pub kind-known : (r : Record) → badWord r ≡ false → (1 ≤ r .kind) × (r .kind ≤ 8)
+unfolding badWord
+kind-known r h =
+    let k = not-false (leb 1 (r .kind) && leb (r .kind) 8) (or-left (badWordKind r) _ (or-right (wrongWordMark r) _ h)) in (
+      leb-true 1 (r .kind) (and-left _ _ k),
+      leb-true (r .kind) 8 (and-right (leb 1 (r .kind)) _ k),
+    )
+
+beyond : (a k : ℕ) → a ≤ k → (k ≡ a → ⊥) → suc a ≤ k
+beyond a k h n = omega arith
+
+from-seven : (k : ℕ) → 7 ≤ k → k ≤ 8 → (k ≡ 8 → ⊥) → k ≡ 7
+from-seven k l h n = omega arith
+
+-- a kind that is none of the others is 7
+pub last :
+    (k : ℕ) → 1 ≤ k → k ≤ 8 → (k ≡ 1 → ⊥) → (k ≡ 2 → ⊥) → (k ≡ 3 → ⊥) → (k ≡ 4 → ⊥) → (k ≡ 5 → ⊥) → (k ≡ 6 → ⊥) → (k ≡ 8 → ⊥)
+    → k ≡ 7
+last k a b n1 n2 n3 n4 n5 n6 n8 =
+    from-seven k (beyond 6 k (beyond 5 k (beyond 4 k (beyond 3 k (beyond 2 k (beyond 1 k a n1) n2) n3) n4) n5) n6) b n8

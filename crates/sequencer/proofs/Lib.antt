@@ -1,0 +1,6 @@
+pub mod Events
+pub mod Laid
+pub mod EachKind
+pub mod Faults
+pub mod Going
+pub mod Answers

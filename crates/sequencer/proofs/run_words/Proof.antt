@@ -1,0 +1,142 @@
+-- `sequencer::run_words` meets its contract. Assumes nothing.
+use Rattle.sequencer.proofs.Going.{Going, faulted, further, halted, place-beyond, spent, starts}
+use Rattle.sequencer.specs.declared.Sequencer.{Sequencer}
+use Rattle.sequencer.specs.Run.{imageRun}
+use Rattle.sequencer.specs.Holds.{Starts}
+use Rattle.record.specs.Record.{recordAt}
+use Rattle.device.specs.declared.Device.{Device}
+use borrow.Author.Needs.{needs}
+use native.Mathlib.Omega.{arith}
+use lib.ListN.{length}
+use mathlib.Core.Path.{ap, sym, _∙_}
+use Prim.Native.Nat.{ℕ, _*_, _-_}
+use borrow.Author.Tests.{eq-eqb, le-leb, le-ltb, lt-leb, lt-ltb, ne-eqb}
+use Rattle.sequencer.proofs.run_words.Statement.{statement}
+use Rattle.sequencer.proofs.run_words.Tie as tie
+
+abbrev Inv-loop : tie.InvT-loop
+Inv-loop image events budget log₀ words x₀ steps₀ log x steps =
+    (d : Device) (s : Sequencer) → Starts d s x₀
+    → Going image (imageRun image d s events budget (length log₀)) events log₀ budget log x steps
+
+abbrev μ-loop : tie.MeasureT-loop
+μ-loop image events budget log₀ words x₀ steps₀ log x steps = budget - steps
+
+cast-words : tie.Need-cast-words Inv-loop μ-loop
+cast-words c = omega arith
+
+start-requires : tie.Need-start-requires Inv-loop μ-loop
+start-requires c κs = c .before .before .before .pre .1
+
+loop-holds : tie.Need-loop-holds Inv-loop μ-loop
+loop-holds c = λ d s h. starts _ d s _ _ _ _ h
+
+ended-requires : tie.Need-ended-requires Inv-loop μ-loop
+ended-requires c κs = search needs
+
+same-length : tie.Need-same-length Inv-loop μ-loop
+same-length c = (c .before .before .before .before .loop .inv (c .before .before .before .before .before .before .before .before .before .args .device) (c .before .before .before .before .before .before .before .before .before .args .sequencer) (c .before .before .before .before .before .start .ensures)) .same
+
+returns : tie.Need-returns Inv-loop μ-loop
+returns c = place-beyond _ (c .before .before .before .before .loop .inv (c .before .before .before .before .before .before .before .before .before .args .device) (c .before .before .before .before .before .before .before .before .before .args .sequencer) (c .before .before .before .before .before .start .ensures)) (c .before .before .before .loop-test .taken) (c .before .if1 .taken) (c .ended .ensures)
+
+index-requires : tie.Need-index-requires Inv-loop μ-loop
+index-requires c κs = search needs
+
+mul-read : tie.Need-mul-read Inv-loop μ-loop
+mul-read c = omega (arith, c .index .ensures)
+
+read-requires : tie.Need-read-requires Inv-loop μ-loop
+read-requires c κs = omega (arith, c .index .ensures)
+
+fault-requires : tie.Need-fault-requires Inv-loop μ-loop
+fault-requires c κs = search needs
+
+ended-requires-2 : tie.Need-ended-requires-2 Inv-loop μ-loop
+ended-requires-2 c κs = search needs
+
+same-length-2 : tie.Need-same-length-2 Inv-loop μ-loop
+same-length-2 c = (c .before .before .before .before .before .before .before .before .loop .inv (c .before .before .before .before .before .before .before .before .before .before .before .before .before .args .device) (c .before .before .before .before .before .before .before .before .before .before .before .before .before .args .sequencer) (c .before .before .before .before .before .before .before .before .before .start .ensures)) .same
+
+returns-2 : tie.Need-returns-2 Inv-loop μ-loop
+returns-2 c = faulted _ (c .before .before .before .before .before .before .before .before .loop .inv (c .before .before .before .before .before .before .before .before .before .before .before .before .before .args .device) (c .before .before .before .before .before .before .before .before .before .before .before .before .before .args .sequencer) (c .before .before .before .before .before .before .before .before .before .start .ensures)) (c .before .before .before .before .before .before .before .loop-test .taken) (record {
+  there = c .before .before .before .before .before .if1 .left;
+  word-is = c .before .before .before .read .ensures ∙ ap (λ (k : ℕ). recordAt (c .before .before .before .before .before .before .before .before .before .before .before .before .before .args .image .now) (12 * k)) (c .before .before .before .before .index .ensures);
+  fault-is = c .before .before .fault .ensures;
+}) (c .before .if2 .taken) (c .ended2 .ensures)
+
+add-ended : tie.Need-add-ended Inv-loop μ-loop
+add-ended c = omega (arith, c .before .before .before .before .before .before .before .before .loop-test .taken, c .before .before .before .before .before .before .before .before .before .before .before .before .before .before .fits .budget)
+
+ended-requires-3 : tie.Need-ended-requires-3 Inv-loop μ-loop
+ended-requires-3 c κs = search needs
+
+same-length-3 : tie.Need-same-length-3 Inv-loop μ-loop
+same-length-3 c = (c .before .before .before .before .before .before .before .before .before .before .loop .inv (c .before .before .before .before .before .before .before .before .before .before .before .before .before .before .before .args .device) (c .before .before .before .before .before .before .before .before .before .before .before .before .before .before .before .args .sequencer) (c .before .before .before .before .before .before .before .before .before .before .before .start .ensures)) .same
+
+returns-3 : tie.Need-returns-3 Inv-loop μ-loop
+returns-3 c = halted _ (c .before .before .before .before .before .before .before .before .before .before .loop .inv (c .before .before .before .before .before .before .before .before .before .before .before .before .before .before .before .args .device) (c .before .before .before .before .before .before .before .before .before .before .before .before .before .before .before .args .sequencer) (c .before .before .before .before .before .before .before .before .before .before .before .start .ensures)) (c .before .before .before .before .before .before .before .before .before .loop-test .taken) (record {
+  there = c .before .before .before .before .before .before .before .if1 .left;
+  word-is = c .before .before .before .before .before .read .ensures ∙ ap (λ (k : ℕ). recordAt (c .before .before .before .before .before .before .before .before .before .before .before .before .before .before .before .args .image .now) (12 * k)) (c .before .before .before .before .before .before .index .ensures);
+  fault-is = c .before .before .before .before .fault .ensures;
+}) (c .before .before .before .if2 .left) (c .before .if3 .taken) (c .ended3 .ensures)
+
+step-requires : tie.Need-step-requires Inv-loop μ-loop
+step-requires c κs = (
+  (omega (arith, c .before .before .before .before .before .before .before .if1 .left, c .before .before .before .before .before .before .before .before .before .before .before .before .before .before .before .pre .0), (c .before .before .before .before .before .before .before .before .before .before .loop .inv (c .before .before .before .before .before .before .before .before .before .before .before .before .before .before .before .args .device) (c .before .before .before .before .before .before .before .before .before .before .before .before .before .before .before .args .sequencer) (c .before .before .before .before .before .before .before .before .before .before .before .start .ensures)) .holds .inside, omega (arith, (c .before .before .before .before .before .before .before .before .before .before .loop .inv (c .before .before .before .before .before .before .before .before .before .before .before .before .before .before .before .args .device) (c .before .before .before .before .before .before .before .before .before .before .before .before .before .before .before .args .sequencer) (c .before .before .before .before .before .before .before .before .before .before .before .start .ensures)) .holds .used, (c .before .before .before .before .before .before .before .before .before .before .loop .inv (c .before .before .before .before .before .before .before .before .before .before .before .before .before .before .before .args .device) (c .before .before .before .before .before .before .before .before .before .before .before .before .before .before .before .args .sequencer) (c .before .before .before .before .before .before .before .before .before .before .before .start .ensures)) .holds .few)),
+  (sym (c .before .before .before .before .fault .ensures) ∙ c .before .before .before .if2 .left, c .before .if3 .left),
+)
+
+add-steps : tie.Need-add-steps Inv-loop μ-loop
+add-steps c = omega (arith, c .before .before .before .before .before .before .before .before .before .before .before .before .loop-test .taken, c .before .before .before .before .before .before .before .before .before .before .before .before .before .before .before .before .before .before .fits .budget)
+
+loop-less : tie.Need-loop-less Inv-loop μ-loop
+loop-less c = omega arith
+
+loop-again : tie.Need-loop-again Inv-loop μ-loop
+loop-again c = λ d s h.
+    further _ _ (c .before .before .before .before .before .before .before .before .before .before .before .before .before .loop .inv d s h) (c .before .before .before .before .before .before .before .before .before .before .before .before .loop-test .taken) (record {
+      there = c .before .before .before .before .before .before .before .before .before .before .if1 .left;
+      word-is = c .before .before .before .before .before .before .before .before .read .ensures ∙ ap (λ (k : ℕ). recordAt (c .before .before .before .before .before .before .before .before .before .before .before .before .before .before .before .before .before .before .args .image .now) (12 * k)) (c .before .before .before .before .before .before .before .before .before .index .ensures);
+      fault-is = c .before .before .before .before .before .before .before .fault .ensures;
+    }) (c .before .before .before .before .before .before .if2 .left) (c .before .before .before .before .if3 .left) (c .before .before .step .ensures) (c .before .before .step .kept .1 .1 .1 .1 .0)
+
+ended-requires-4 : tie.Need-ended-requires-4 Inv-loop μ-loop
+ended-requires-4 c κs = search needs
+
+same-length-4 : tie.Need-same-length-4 Inv-loop μ-loop
+same-length-4 c = (c .before .before .loop .inv (c .before .before .before .before .before .before .before .args .device) (c .before .before .before .before .before .before .before .args .sequencer) (c .before .before .before .start .ensures)) .same
+
+returns-4 : tie.Need-returns-4 Inv-loop μ-loop
+returns-4 c = spent _ (c .before .before .loop .inv (c .before .before .before .before .before .before .before .args .device) (c .before .before .before .before .before .before .before .args .sequencer) (c .before .before .before .start .ensures)) (c .before .loop-test .left) (c .ended4 .ensures)
+
+pub run-words-spec : {M : Type 1} → statement M
+run-words-spec =
+    tie.close
+    (tie.spec
+    Inv-loop
+    μ-loop
+    cast-words
+    start-requires
+    loop-holds
+    ended-requires
+    same-length
+    returns
+    index-requires
+    mul-read
+    read-requires
+    fault-requires
+    ended-requires-2
+    same-length-2
+    returns-2
+    add-ended
+    ended-requires-3
+    same-length-3
+    returns-3
+    step-requires
+    add-steps
+    loop-less
+    loop-again
+    ended-requires-4
+    same-length-4
+    returns-4)

@@ -1,0 +1,62 @@
+-- `sequencer::running::Running::read` meets its contract. Assumes nothing.
+use native.Mathlib.Omega.{arith}
+use borrow.Author.Needs.{scaled-fits}
+use mathlib.Core.Path.{ap, _∙_}
+use Rattle.device.specs.Reach.{accessed}
+use Rattle.sequencer.proofs.EachKind.{read-out}
+use borrow.Author.Needs.{needs}
+use Rattle.sequencer.proofs.running.Running.read.Statement.{statement}
+use Rattle.sequencer.proofs.running.Running.read.Tie as tie
+
+next-applied-requires : tie.Need-next-applied-requires
+next-applied-requires c κs = search needs
+
+read-of-requires : tie.Need-read-of-requires
+read-of-requires c κs = search needs
+
+accessed-requires : tie.Need-accessed-requires
+accessed-requires c κs = search needs
+
+taken-behind-requires : tie.Need-taken-behind-requires
+taken-behind-requires c κs = search needs
+
+mul-log : tie.Need-mul-log
+mul-log c = scaled-fits _ _ 4 (c .before .before .before .before .before .before .before .before .pre .3) (c .before .before .before .before .before .before .before .before .good .1 .1 .1 .0 .1)
+
+slice-write-log : tie.Need-slice-write-log
+slice-write-log c = search needs
+
+add-self : tie.Need-add-self
+add-self c = omega (arith, c .before .before .before .before .before .before .before .before .pre .3, c .before .before .before .before .before .before .before .before .good .1 .1 .1 .0 .0)
+
+add-self-2 : tie.Need-add-self-2
+add-self-2 c = search needs
+
+same-length : tie.Need-same-length
+same-length c = search needs
+
+returns : tie.Need-returns
+returns c =
+    read-out (c .before .before .before .before .before .before .before .before .before .args .word) (c .before .before .before .before .before .before .before .before .before .args .self) (c .before .before .before .before .before .before .before .before .before .args .events .now) (c .before .before .before .before .before .before .before .before .before .args .log .now) (c .before .before .before .before .accessed .result) (c .before .before .before .taken-behind .result)
+    (c .before .before .before .before .before .before .before .before .before .pre .2) (record {
+      arrived = c .before .before .before .before .before .before .next-applied .result;
+      applied = c .before .before .before .before .before .before .next-applied .ensures;
+      answered = c .before .before .before .before .accessed .ensures ∙ ap (accessed (c .before .before .before .before .before .before .next-applied .result)) (c .before .before .before .before .before .read-of .ensures);
+      inside = c .before .before .before .taken-behind .ensures .0;
+      left = c .before .before .before .taken-behind .ensures .1;
+    }) (c .before .before .before .before .before .before .before .before .before .pre .3)
+
+pub read-spec : {M : Type 1} → statement M
+read-spec =
+    tie.close
+    (tie.spec
+    next-applied-requires
+    read-of-requires
+    accessed-requires
+    taken-behind-requires
+    mul-log
+    slice-write-log
+    add-self
+    add-self-2
+    same-length
+    returns)

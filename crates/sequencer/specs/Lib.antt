@@ -1,0 +1,5 @@
+pub mod Word
+pub mod Step
+pub mod Sequencer
+pub mod Run
+pub mod Holds

@@ -1,0 +1,38 @@
+-- Document 01, "Scripts and images": the words of an image, and which of them are bad.
+use Prim.Native.Nat.{ℕ, _*_, _/_}
+use mathlib.Core.Bool.{Bool, cond, not, _&&_, _||_}
+use mathlib.Core.List.{List}
+use lib.Dec.{eqb, leb}
+use lib.ListN.{length}
+use Rattle.record.specs.Record.{recordAt}
+use Rattle.record.specs.declared.Record.{Record}
+use Rattle.script.specs.Fields.{countFields, noFields, readFields, valueFields}
+
+abbrev pub imageWords : List ℕ → ℕ
+imageWords image = length image / 12
+
+abbrev pub wordAt : List ℕ → ℕ → Record
+wordAt image place = recordAt image (12 * place)
+
+-- "word mark C3 3C"
+abbrev pub wrongWordMark : Record → Bool
+wrongWordMark r = not (eqb (r .mark) 0x3CC3)
+
+-- "1, 2, 3 as above; 4 enter; 5 loop end; 6 test; 7 jump; 8 halt"
+abbrev pub badWordKind : Record → Bool
+badWordKind r = not (leb 1 (r .kind) && leb (r .kind) 8)
+
+-- "4 to 7 use target too"
+abbrev pub usesTarget : Record → Bool
+usesTarget r = leb 4 (r .kind) && leb (r .kind) 7
+
+-- "Word 4 has script kind 4's fields and value rule, word 6 those of script kind 5"; "Unused fields are zero."
+abbrev pub goodWordFields : Record → Bool
+goodWordFields r =
+    (usesTarget r || eqb (r .target) 0)
+    && cond (eqb (r .kind) 1 || eqb (r .kind) 6) (valueFields r)
+    (cond (eqb (r .kind) 2) (readFields r) (cond (eqb (r .kind) 3 || eqb (r .kind) 4) (countFields r) (noFields r)))
+
+-- "A bad word has a wrong mark, a kind not 1 to 8, or a width, value or unused field wrong by the rules above."
+unfoldable pub badWord : Record → Bool
+badWord r = wrongWordMark r || (badWordKind r || not (goodWordFields r))

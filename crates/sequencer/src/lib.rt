@@ -1,0 +1,279 @@
+// The sequencer: runs an image on a device.
+pub mod running;
+pub mod word;
+
+use crate::running::Running;
+use device::Device;
+ghost use mathlib.Core.Path.{_≡_};
+ghost use mathlib.Core.Bool.{true};
+ghost use Prim.Native.Nat.{_/_, _%_, _≤_, _<_};
+ghost use lib.ListN.{length};
+ghost use Rattle.sequencer.specs.Sequencer.{freshSequencer, counterInRange, sequencerInRange};
+ghost use Rattle.sequencer.specs.Run.{
+  badImage,
+  badState,
+  eventsRefusal,
+  runRefusal,
+  runRefused,
+  runAnswer,
+  logAfter,
+  imageRun,
+  answerOf,
+  filled,
+  asRefused,
+};
+ghost use Rattle.sequencer.specs.Word.{imageWords};
+ghost use Rattle.sequencer.specs.Holds.{Starts, EndsAs, answer};
+
+// The place of the next word, and the loop counters, bottom first: `used` of them are in use, and the rest are 0.
+pub struct Sequencer {
+    pub place: u32,
+    pub counters: [u32; 8],
+    pub used: usize,
+}
+
+// The answer to a run: the outcome is how it ended, or a refusal's number with its place.
+pub struct Ran {
+    pub outcome: u32,
+    pub place: u32,
+    pub steps: u32,
+    pub taken: usize,
+    pub logged: usize,
+    pub sequencer: Sequencer,
+    pub device: Device,
+}
+
+// A refusal's number and place; number 0 is none.
+pub struct Refused {
+    pub number: u32,
+    pub place: u32,
+}
+
+pub const HALTED: u32 = 0;
+
+pub const BUDGET_SPENT: u32 = 19;
+
+pub const PLACE_BEYOND: u32 = 21;
+
+const MOST_EVENTS: usize = 4096;
+
+// ---- the state
+
+fn counter_in_range(used: usize, k: usize, counter: u32) -> bool
+    ensures { λ r. ⌜ r ≡ counterInRange used k counter ⌝ }
+{
+    if k < used {
+        if counter < 1 {
+            return false;
+        }
+        return counter <= 65535;
+    }
+    counter == 0
+}
+
+impl Sequencer {
+    pub fn fresh() -> Self
+        ensures { λ r. ⌜ r ≡ freshSequencer ⌝ }
+    {
+        Sequencer {
+            place: 0,
+            counters: [0; 8],
+            used: 0,
+        }
+    }
+
+    pub fn in_range(self) -> bool
+        ensures { λ r. ⌜ r ≡ sequencerInRange self ⌝ }
+    {
+        let used = self.used;
+        let counters = self.counters;
+        if 8 < used {
+            return false;
+        }
+        for k in 0..8 {
+            if !counter_in_range(used, k, counters[k]) {
+                return false;
+            }
+        }
+        true
+    }
+}
+
+// ---- the refusals
+
+fn bad_image(image: &[u8]) -> bool
+    ensures { λ r. ⌜ r ≡ badImage (now (image .entry)) ⌝ }
+{
+    if image.len() == 0 {
+        return true;
+    }
+    if image.len() % 12 != 0 {
+        return true;
+    }
+    1024 < image.len() / 12
+}
+
+fn bad_state(device: Device, sequencer: Sequencer) -> bool
+    ensures { λ r. ⌜ r ≡ badState device sequencer ⌝ }
+{
+    if device.in_range() {
+        return !sequencer.in_range();
+    }
+    true
+}
+
+fn events_refusal(events: &[u32]) -> Refused
+    ensures { λ r. ⌜ r ≡ asRefused (eventsRefusal (now (events .entry))) ⌝ }
+{
+    if MOST_EVENTS < events.len() {
+        return Refused {
+            number: 12,
+            place: 4096,
+        };
+    }
+    let mut k: usize = 0;
+    while k < events.len() {
+        if !device::event::is_event(events[k]) {
+            return Refused {
+                number: 12,
+                place: k as u32,
+            };
+        }
+        k = k + 1;
+    }
+    Refused {
+        number: 0,
+        place: 0,
+    }
+}
+
+fn refusal(image: &[u8], device: Device, sequencer: Sequencer, events: &[u32]) -> Refused
+    ensures { λ r. ⌜ r ≡ asRefused (runRefusal (now (image .entry)) device sequencer (now (events .entry))) ⌝ }
+{
+    if bad_image(image) {
+        return Refused {
+            number: 10,
+            place: 0,
+        };
+    }
+    if bad_state(device, sequencer) {
+        return Refused {
+            number: 11,
+            place: 0,
+        };
+    }
+    events_refusal(events)
+}
+
+// ---- the run
+
+// The state at the start of a run; the counters go into an array of the run's own.
+fn start(device: Device, sequencer: Sequencer) -> Running
+    requires { ⌜ sequencerInRange sequencer ≡ true ⌝ }
+    ensures { λ r. ⌜ Starts device sequencer r ⌝ }
+{
+    let given = sequencer.counters;
+    Running {
+        device,
+        place: sequencer.place,
+        counters: [
+            given[0],
+            given[1],
+            given[2],
+            given[3],
+            given[4],
+            given[5],
+            given[6],
+            given[7],
+        ],
+        used: sequencer.used,
+        taken: 0,
+        logged: 0,
+    }
+}
+
+fn ended(outcome: u32, steps: u32, x: Running) -> Ran
+    ensures { λ r. ⌜ r ≡ answer outcome steps x ⌝ }
+{
+    let counters = x.counters;
+    let device = x.device;
+    let sequencer = Sequencer {
+        place: x.place,
+        counters,
+        used: x.used,
+    };
+    Ran {
+        outcome,
+        place: 0,
+        steps,
+        taken: x.taken,
+        logged: x.logged,
+        sequencer,
+        device,
+    }
+}
+
+fn index(place: u32) -> usize
+    ensures { λ r. ⌜ r ≡ place ⌝ }
+{
+    place as usize
+}
+
+// Runs the words of an image until the run ends.
+fn run_words(
+    image: &[u8],
+    device: Device,
+    sequencer: Sequencer,
+    events: &[u32],
+    budget: u32,
+    log: &mut [u32],
+) -> Ran
+    requires { ⌜ (imageWords (now image) ≤ 1024) × (sequencerInRange sequencer ≡ true) ⌝ }
+    ensures { λ r. ⌜ EndsAs (now (events .entry)) (now (log .entry)) (now (log .exit)) r (imageRun (now (image .entry)) device sequencer (now (events .entry)) budget (length (now (log .entry)))) ⌝ }
+{
+    let words = (image.len() / 12) as u32;
+    let mut x = start(device, sequencer);
+    let mut steps: u32 = 0;
+    while steps < budget {
+        if words <= x.place {
+            return ended(PLACE_BEYOND, steps, x);
+        }
+        let word = record::read(image, 12 * index(x.place));
+        let fault = word::fault(words, log.len(), x.used, x.logged, word);
+        if fault != 0 {
+            return ended(fault, steps, x);
+        }
+        if word.kind == word::HALT {
+            return ended(HALTED, steps + 1, x);
+        }
+        x = running::step(x, word, words, events, log);
+        steps = steps + 1;
+    }
+    ended(BUDGET_SPENT, steps, x)
+}
+
+// Runs an image from a sequencer's state: document 01's one run call. A lone step is a run with budget 1.
+pub fn run(
+    image: &[u8],
+    device: Device,
+    sequencer: Sequencer,
+    events: &[u32],
+    budget: u32,
+    log: &mut [u32],
+) -> Ran
+    ensures { λ r. ⌜ (r ≡ runAnswer (now (image .entry)) device sequencer (now (events .entry)) budget (now (log .entry))) × (now (log .exit) ≡ logAfter (now (image .entry)) device sequencer (now (events .entry)) budget (now (log .entry))) ⌝ }
+{
+    let refusal = refusal(image, device, sequencer, events);
+    if refusal.number != 0 {
+        return Ran {
+            outcome: refusal.number,
+            place: refusal.place,
+            steps: 0,
+            taken: 0,
+            logged: 0,
+            sequencer,
+            device,
+        };
+    }
+    run_words(image, device, sequencer, events, budget, log)
+}
