@@ -35,14 +35,26 @@ use Rattle.device.specs.Reach.{
   monitorReached,
   reached,
 }
-use Rattle.correct.specs.Cases.{cases, every, p1, p2, p3, p4, p5, p6, p7, p8, p9}
+use Rattle.compiler.specs.Words.{wordsOf}
+use Rattle.record.specs.Record.{bytesOf, recordAt}
+use Rattle.script.specs.Nested.{scriptBody}
+use Rattle.script.specs.Records.{recordsOf}
+use Rattle.script.specs.Refusals.{recordFault, scriptRefusal}
+use Rattle.semantics.specs.OwnRun.{scriptRun}
+use Rattle.semantics.specs.World.{readLogged, sharesOne, tested, valueRead, written}
+use Rattle.sequencer.specs.Run.{imageRun}
+use Rattle.sequencer.specs.Step.{did, stepOf, wordFault}
+use Rattle.sequencer.specs.Word.{badWord}
+use Rattle.correct.specs.Cases.{cases, every, p1, p2, p3, p4, p5, p6, p7, p8, p9, p10, p11}
 
 pub all-hold : every cases ≡ true
-unfolding p1 p2 p3 p4 p5 p6 p7 p8 p9
+unfolding p1 p2 p3 p4 p5 p6 p7 p8 p9 p10 p11
     accessed reached byteReached configReached acpiReached monitorReached keyReached readGives
     owner keyClaims monitorClaims happened moved resetBy
     configDataRead registerRead configIndexWritten configDataWritten registerWritten controlWritten keyRead keyWritten
     freshMonitor monitorDataRead monitorDataWritten kindOf resetOf slotOf
     takes acpiRead acpiWritten acpiRegister acpiControl setupIndexWritten
     ticked settled woken pending sciOn smiOn
+    bytesOf recordAt recordsOf scriptRefusal recordFault scriptBody wordsOf
+    scriptRun written readLogged tested sharesOne valueRead imageRun stepOf did wordFault badWord
 all-hold = refl

@@ -7,3 +7,4 @@ pub mod Words
 pub mod Simulation
 pub mod Whole
 pub mod Demand3
+pub mod OneCall

@@ -36,7 +36,7 @@ use Rattle.correct.proofs.Words.{At, all-fit, halt-fits, image-words, l
 
 -- ---- the words written are the script's
 module _ (script buffer : List ℕ) (accepted : compiled script buffer .refusal ≡ 0) where
-  words-counted : compiled script buffer .words ≡ wordsIn script
+  pub words-counted : compiled script buffer .words ≡ wordsIn script
   unfolding compiled
   words-counted = rw accepted
 
@@ -78,11 +78,11 @@ module _ (b : Body) (loops : loopsWithin 0 b) (fields : fieldsWithin b) (ports :
       (step-halt image room (behind 0 b) [] (ownRun b r .world) inside (stop .0)) budget (omega arith)
 
 -- ---- the call
-fresh-in-range : sequencerInRange freshSequencer ≡ true
+pub fresh-in-range : sequencerInRange freshSequencer ≡ true
 unfolding sequencerInRange
 fresh-in-range = refl
 
-good-image : (ws : List Record) → 0 < length ws → length ws ≤ 1024 → badImage (imageBytes ws) ≡ false
+pub good-image : (ws : List Record) → 0 < length ws → length ws ≤ 1024 → badImage (imageBytes ws) ≡ false
 good-image ws some few =
     let l = image-length ws in
     let a = ne-eqb (length (imageBytes ws)) 0 (λ e. omega arith) in
@@ -97,7 +97,7 @@ unfolding runRefusal
 refuses-none image d events good inRange all = rw (good, inRange, fresh-in-range, all)
 
 -- the words of an accepted script: its body's and the halt, and no more than 1,024
-words-many :
+pub words-many :
     (script : List ℕ) → scriptRefusal script .number ≡ 0
     → (length (wordsOf script) ≡ suc (behind 0 (scriptBody script))) × (length (wordsOf script) ≤ 1024)
 unfolding wordsOf

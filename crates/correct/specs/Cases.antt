@@ -1,14 +1,15 @@
 -- Document 01, "Cases to prove (P) and to run": "One statement over one list holds P1 to P11". Each case is a test over
--- the device's definitions, on the fresh device with what the case names changed.
+-- the definitions: P1 to P9 on the fresh device with what the case names changed, P10 and P11 on a script.
 use Prim.Native.Nat.{ℕ, _+_, _*_, _^_}
 use mathlib.Core.Bool.{Bool, true, false, not, _&&_}
-use mathlib.Core.List.{List, [], _∷_}
+use mathlib.Core.List.{List, [], _∷_, _++_}
 use lib.Dec.{eqb}
 use lib.ListN.{getD}
 use Rattle.acpi.specs.Block.{freshAcpi}
 use Rattle.acpi.specs.Fields.{withPm1en, withPm1sts, withScien, withSetupidx, withTimer}
 use Rattle.acpi.specs.Settle.{pending, sciOn}
 use Rattle.acpi.specs.declared.Acpi.{Acpi}
+use Rattle.compiler.specs.Words.{imageBytes, word, wordsOf}
 use Rattle.config.specs.Config.{
   freshConfig,
   withActivate,
@@ -29,6 +30,12 @@ use Rattle.device.specs.Event.{happened}
 use Rattle.device.specs.Reach.{accessed}
 use Rattle.device.specs.declared.Device.{Device}
 use Rattle.device.specs.declared.Reached.{Reached}
+use Rattle.record.specs.Record.{bytesOf}
+use Rattle.record.specs.declared.Record.{Record}
+use Rattle.script.specs.Refusals.{scriptRefusal}
+use Rattle.semantics.specs.OwnRun.{scriptRun}
+use Rattle.sequencer.specs.Run.{imageRun}
+use Rattle.sequencer.specs.Sequencer.{freshSequencer}
 
 -- ---- accesses, events, and what is looked at afterwards
 abbrev reading : Device → ℕ → ℕ → Reached
@@ -150,8 +157,65 @@ p9 =
     && (answers sleepWrite 0 0
     && (not (sleepWrite .device .acpi .sleeping) && hasBit 0x8000 (sleepWrite .device .acpi .pm1sts)))
 
+-- ---- scripts: their records' bytes, the words that they give, and both runs on the fresh device with no events
+abbrev scriptRecord : (kind width port value : ℕ) → Record
+scriptRecord k w p v = record { mark = 0xA55A; kind = k; width = w; port = p; target = 0; value = v }
+
+abbrev scriptOf : List Record → List ℕ
+scriptOf [] = []
+scriptOf (r ∷ rs) = bytesOf r ++ scriptOf rs
+
+abbrev sameWord : Record → Record → Bool
+sameWord a b =
+    eqb (a .mark) (b .mark)
+    && (eqb (a .kind) (b .kind)
+    && (eqb (a .width) (b .width)
+    && (eqb (a .port) (b .port) && (eqb (a .target) (b .target) && eqb (a .value) (b .value)))))
+
+abbrev sameWords : List Record → List Record → Bool
+sameWords [] [] = true
+sameWords [] (b ∷ bs) = false
+sameWords (a ∷ ws) [] = false
+sameWords (a ∷ ws) (b ∷ bs) = sameWord a b && sameWords ws bs
+
+-- the image halts in so many steps, and the script's own run has as many
+abbrev stepsOf : List ℕ → ℕ → Bool
+stepsOf script n =
+    eqb (imageRun (imageBytes (wordsOf script)) freshDevice freshSequencer [] 100 10 .outcome) 0
+    && (eqb (imageRun (imageBytes (wordsOf script)) freshDevice freshSequencer [] 100 10 .steps) n
+    && eqb (scriptRun script freshDevice [] .steps) n)
+
+-- ---- P10 repeat 2, write, end: enter 2 to 3, write, loop end to 1, halt; 6 steps
+abbrev repeatScript : List ℕ
+repeatScript = scriptOf (scriptRecord 4 0 0 2 ∷ scriptRecord 1 1 0x002E 0x55 ∷ scriptRecord 7 0 0 0 ∷ [])
+
+unfoldable pub p10 : Bool
+p10 =
+    eqb (scriptRefusal repeatScript .number) 0
+    && (sameWords (wordsOf repeatScript) (word 4 0 0 3 2 ∷ word 1 1 0x002E 0 0x55 ∷ word 5 0 0 1 0 ∷ word 8 0 0 0 0 ∷ [])
+    && stepsOf repeatScript 6)
+
+-- ---- P11 if, read, else, read, end: test to 3, read, jump to 4, read, halt; 4 steps or 3. The fresh device reads FFh at
+-- 2Fh, so a mask of 01h takes the first read, and 00h the second
+abbrev ifScript : ℕ → List ℕ
+ifScript mask =
+    scriptOf
+    (scriptRecord 5 1 0x002F mask
+    ∷ scriptRecord 2 1 0x002E 0 ∷ scriptRecord 6 0 0 0 ∷ scriptRecord 2 1 0x002F 0 ∷ scriptRecord 7 0 0 0 ∷ [])
+
+abbrev ifWords : ℕ → List Record
+ifWords mask =
+    word 6 1 0x002F 3 mask
+    ∷ word 2 1 0x002E 0 0 ∷ word 7 0 0 4 0 ∷ word 2 1 0x002F 0 0 ∷ word 8 0 0 0 0 ∷ []
+
+unfoldable pub p11 : Bool
+p11 =
+    eqb (scriptRefusal (ifScript 0x01) .number) 0
+    && (sameWords (wordsOf (ifScript 0x01)) (ifWords 0x01)
+    && (sameWords (wordsOf (ifScript 0x00)) (ifWords 0x00) && (stepsOf (ifScript 0x01) 4 && stepsOf (ifScript 0x00) 3)))
+
 abbrev pub cases : List Bool
-cases = p1 ∷ p2 ∷ p3 ∷ p4 ∷ p5 ∷ p6 ∷ p7 ∷ p8 ∷ p9 ∷ []
+cases = p1 ∷ p2 ∷ p3 ∷ p4 ∷ p5 ∷ p6 ∷ p7 ∷ p8 ∷ p9 ∷ p10 ∷ p11 ∷ []
 
 abbrev pub every : List Bool → Bool
 every [] = true

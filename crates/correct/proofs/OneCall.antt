@@ -1,0 +1,111 @@
+-- Compiling and running in one call: what the compiler and the run answer is what the script's own run tells. Assumes nothing.
+use Prim.Native.Nat.{ℕ, _*_, _-_, _≤_}
+use mathlib.Core.Path.{_≡_, refl, sym, ap, _∙_}
+use mathlib.Core.Bool.{Bool, true, false, cond, not, _&&_}
+use mathlib.Core.List.{List, []}
+use native.Mathlib.Omega.{arith}
+use borrow.Author.Tests.{eq-eqb, ne-eqb, leb-true}
+use lib.Dec.{eqb, leb}
+use lib.ListN.{length, take}
+use Rattle.compiler.proofs.Compiling.{accepts-all, refuses-not}
+use Rattle.compiler.specs.Compile.{compileRefusal, compiled, imageAfter}
+use Rattle.compiler.specs.Words.{imageBytes, wordsOf}
+use Rattle.compiler.specs.declared.Compiled.{Compiled}
+use Rattle.device.specs.Device.{deviceInRange}
+use Rattle.device.specs.declared.Device.{Device}
+use Rattle.mask.proofs.Every.{and-left, and-right}
+use Rattle.script.proofs.Flat.{accepts}
+use Rattle.script.specs.Refusals.{Refusal, refusal, scriptRefusal, wordsIn}
+use Rattle.semantics.specs.OwnRun.{Run, scriptRun}
+use Rattle.sequencer.specs.Run.{Ended, answerOf, badImage, eventsRefusal, filled, imageRun, logAfter, runAnswer, runRefusal, runRefused}
+use Rattle.sequencer.specs.Sequencer.{freshSequencer, sequencerInRange}
+use Rattle.sequencer.specs.declared.Ran.{Ran}
+use Rattle.correct.specs.Demand3.{Bytes, wordsWritten}
+use Rattle.correct.specs.Whole.{ownEnd, suffices, wholeAnswer, wholeEnd, wholeLog, wholeRefusal}
+use Rattle.correct.proofs.Whole.{fresh-in-range, good-image, whole-run, words-are, words-counted, words-many, written-are}
+
+-- ---- a refusal of the compiler; 9 is none, since every script's words have room
+script-refused :
+    (script buffer : List ℕ) → 12288 ≤ length buffer → (compiled script buffer .refusal ≡ 0 → ⊥)
+    → scriptRefusal script .number ≡ 0 → ⊥
+script-refused script buffer l n z =
+    n (accepts-all script buffer z (let w = accepts script z .few-words in omega (arith, w, l)))
+
+whole-is-script : (script : List ℕ) (d : Device) (events : List ℕ) → (scriptRefusal script .number ≡ 0 → ⊥)
+    → wholeRefusal script d events ≡ scriptRefusal script
+unfolding wholeRefusal
+whole-is-script script d events n = rw (ne-eqb (scriptRefusal script .number) 0 n)
+
+compile-is-script : (script buffer : List ℕ) → (scriptRefusal script .number ≡ 0 → ⊥)
+    → compileRefusal script buffer ≡ scriptRefusal script
+unfolding compileRefusal
+compile-is-script script buffer n = rw (ne-eqb (scriptRefusal script .number) 0 n)
+
+pub compiler-refuses :
+    (script buffer : List ℕ) (d : Device) (events : List ℕ) (budget : ℕ) (log : List ℕ) (c : Compiled)
+    → 12288 ≤ length buffer → c ≡ compiled script buffer → (c .refusal ≡ 0 → ⊥)
+    → (runRefused (refusal (c .refusal) (c .place)) d freshSequencer ≡ wholeAnswer script d events budget log)
+    × (log ≡ wholeLog script d events budget log)
+unfolding wholeAnswer wholeLog compiled
+compiler-refuses script buffer d events budget log c l e n =
+    let z = script-refused script buffer l (λ q. n (ap (λ (x : Compiled). x .refusal) e ∙ q)) in
+    let w = whole-is-script script d events z in
+    let k : eqb (wholeRefusal script d events .number) 0 ≡ false = rw w (ne-eqb (scriptRefusal script .number) 0 z) in
+    (rw (e, k, w, compile-is-script script buffer z), rw k)
+
+-- ---- a script that is accepted
+same-refusal :
+    (script buffer : List ℕ) (d : Device) (events : List ℕ) → compiled script buffer .refusal ≡ 0
+    → runRefusal (wordsWritten script buffer) d freshSequencer events ≡ wholeRefusal script d events
+unfolding runRefusal wholeRefusal
+same-refusal script buffer d events accepted =
+    let z = refuses-not script buffer accepted .0 in
+    let many = words-many script z in
+    let good : badImage (wordsWritten script buffer) ≡ false =
+    ap badImage (written-are script buffer accepted) ∙ good-image (wordsOf script) (omega arith) (omega arith) in
+    rw (good, eq-eqb (scriptRefusal script .number) 0 z, fresh-in-range) (judged (deviceInRange d))
+  where
+    judged : (b : Bool)
+        → cond (not (b && true)) (refusal 11 0) (eventsRefusal events) ≡ cond b (eventsRefusal events) (refusal 11 0)
+    judged true = refl
+    judged false = refl
+
+same-end :
+    (script buffer : List ℕ) (d : Device) (events : List ℕ) (budget : ℕ) (log : List ℕ) → Bytes script
+    → compiled script buffer .refusal ≡ 0
+    → imageRun (wordsWritten script buffer) d freshSequencer events budget (length log)
+    ≡ wholeEnd script d events budget (length log)
+unfolding wholeEnd
+same-end script buffer d events budget log bytes accepted =
+    pick (suffices (scriptRun script d events) budget (length log)) refl
+  where
+    pick : (b : Bool) → suffices (scriptRun script d events) budget (length log) ≡ b
+        → imageRun (wordsWritten script buffer) d freshSequencer events budget (length log)
+        ≡ cond b (ownEnd script (scriptRun script d events)) (imageRun (imageBytes (wordsOf script)) d freshSequencer events budget (length log))
+    pick true h =
+        let room = leb-true _ _ (and-left _ (leb (scriptRun script d events .steps) budget) h) in
+        let steps = leb-true _ _ (and-right (leb (length (scriptRun script d events .world .logged)) (length log)) _ h) in
+        rw (← (words-counted script buffer accepted)) (whole-run script buffer d events budget log bytes accepted room steps)
+    pick false h =
+        ap (λ (image : List ℕ). imageRun image d freshSequencer events budget (length log)) (written-are script buffer accepted)
+
+pub words-run :
+    (script buffer : List ℕ) (d : Device) (events : List ℕ) (budget : ℕ) (log : List ℕ) → Bytes script
+    → compiled script buffer .refusal ≡ 0
+    → (runAnswer (wordsWritten script buffer) d freshSequencer events budget log ≡ wholeAnswer script d events budget log)
+    × (logAfter (wordsWritten script buffer) d freshSequencer events budget log ≡ wholeLog script d events budget log)
+unfolding runAnswer logAfter wholeAnswer wholeLog
+words-run script buffer d events budget log bytes accepted =
+    let f = same-refusal script buffer d events accepted in
+    let e = same-end script buffer d events budget log bytes accepted in
+    (rw (f, e), rw (f, e))
+
+-- its words have room in the buffer
+pub words-fit :
+    (script buffer : List ℕ) → compiled script buffer .refusal ≡ 0
+    → (12 * compiled script buffer .words ≤ length buffer) × (compiled script buffer .words ≤ 1024)
+words-fit script buffer accepted =
+    let r = refuses-not script buffer accepted in
+    let w = words-counted script buffer accepted in
+    let f = accepts script (r .0) .few-words in
+    (omega (arith, w, r .1), omega (arith, w, f))
