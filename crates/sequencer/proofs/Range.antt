@@ -1,4 +1,5 @@
--- A run hands back a device and a sequencer in range if it was given such. Assumes nothing.
+-- A run hands back a device and a sequencer in range if it was given such, never makes more steps than its budget, and never
+-- logs more values than the log has room for. Assumes nothing.
 use Prim.Native.Nat.{ℕ, zero, suc, _+_, _-_, _≤_}
 use mathlib.Core.Path.{_≡_, refl}
 use mathlib.Core.Bool.{Bool, true, false, cond}
@@ -200,3 +201,52 @@ run-in-range image d s events budget log h k =
     (ran-keeps image (length log) MachineInRange (did-in-range (length log)) budget 0 (startMachine d s events)
     (start-in-range d s events h k)))
     (h, k)
+
+-- ---- the steps
+follow-within :
+    (rest : Machine → Ended) (left steps : ℕ) (m : Machine) → ((n : Machine) → rest n .steps ≤ suc steps + left)
+    → (s : Step) → follow rest steps m s .steps ≤ steps + suc left
+follow-within rest left steps m h (goesOn n) = omega (arith, h n)
+follow-within rest left steps m h halts = omega arith
+follow-within rest left steps m h (faults f) = omega arith
+
+pub steps-within :
+    (image : List ℕ) (room left steps : ℕ) (m : Machine) → ran image room left steps m .steps ≤ steps + left
+steps-within image room zero steps m = omega arith
+steps-within image room (suc left) steps m =
+    follow-within (ran image room left (suc steps)) left steps m (λ n. steps-within image room left (suc steps) n)
+    (stepOf image room m)
+
+-- "bounded by the lent budget"
+pub run-steps-within :
+    (image : List ℕ) (d : Device) (s : Sequencer) (events : List ℕ) (budget room : ℕ)
+    → imageRun image d s events budget room .steps ≤ budget
+unfolding imageRun
+run-steps-within image d s events budget room = omega (arith, steps-within image room budget 0 (startMachine d s events))
+
+-- ---- the log
+abbrev LogsWithin : (room : ℕ) → Machine → Type 0
+LogsWithin room m = length (m .world .logged) ≤ room
+
+did-logs : (room : ℕ) → Keeps room (LogsWithin room)
+unfolding did written readLogged tested delayed
+did-logs room words r m c h =
+    let P = LogsWithin room in
+    let logged = m .world .logged in
+    let none : length (logged ++ []) ≤ room = omega (arith, length-append logged []) in
+    branch P (eqb (r .kind) 1) none
+    (branch-on P (eqb (r .kind) 2) (λ k.
+    let left = read-room room (length logged) r (eqb-true (r .kind) 2 k) (c .log-room) in
+    let value = valueRead (r .port) (r .width) (m .world) in
+    omega (arith, left, length-append logged (value ∷ []))) (λ k.
+    branch P (eqb (r .kind) 3) h
+    (branch P (eqb (r .kind) 4) (branch P (eqb (r .value) 0) h h)
+    (branch P (eqb (r .kind) 5) (branch P (eqb (innermost (m .counters) - 1) 0) h h)
+    (branch P (eqb (r .kind) 6) none h)))))
+
+pub never-logs-beyond :
+    (image : List ℕ) (d : Device) (s : Sequencer) (events : List ℕ) (budget room : ℕ)
+    → length (imageRun image d s events budget room .machine .world .logged) ≤ room
+unfolding imageRun
+never-logs-beyond image d s events budget room =
+    ran-keeps image room (LogsWithin room) (did-logs room) budget 0 (startMachine d s events) (omega arith)
