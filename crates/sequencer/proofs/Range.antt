@@ -1,5 +1,5 @@
--- A run hands back a device and a sequencer in range if it was given such, never makes more steps than its budget, and never
--- logs more values than the log has room for. Assumes nothing.
+-- A run hands back a device and a sequencer in range if it was given such, never makes more steps than its budget, never logs
+-- more values than the log has room for, and stopped by its budget goes on as if it had not been stopped. Assumes nothing.
 use Prim.Native.Nat.{ℕ, zero, suc, _+_, _-_, _≤_}
 use mathlib.Core.Path.{_≡_, refl}
 use mathlib.Core.Bool.{Bool, true, false, cond}
@@ -250,3 +250,57 @@ pub never-logs-beyond :
 unfolding imageRun
 never-logs-beyond image d s events budget room =
     ran-keeps image room (LogsWithin room) (did-logs room) budget 0 (startMachine d s events) (omega arith)
+
+-- ---- a run in two
+-- no word's fault is 19
+abbrev Not19 : ℕ → Type 0
+Not19 n = n ≡ 19 → ⊥
+
+fault-not-19 : (words room used logged : ℕ) (r : Record) → Not19 (wordFault words room used logged r)
+unfolding wordFault
+fault-not-19 words room used logged r =
+    branch Not19 (badWord r) (λ e. omega (arith, e))
+    (branch Not19 (aimsBeyond words r) (λ e. omega (arith, e))
+    (branch Not19 (ninthCounter used r) (λ e. omega (arith, e))
+    (branch Not19 (noCounter used r) (λ e. omega (arith, e))
+    (branch Not19 (logFull room logged r) (λ e. omega (arith, e)) (λ e. omega (arith, e))))))
+
+-- nor a step's
+abbrev NotSpent : Step → Type 0
+NotSpent s = (f : ℕ) → s ≡ faults f → Not19 f
+
+step-not-19 : (image : List ℕ) (room : ℕ) (m : Machine) → NotSpent (stepOf image room m)
+unfolding stepOf
+step-not-19 image room m =
+    branch NotSpent (leb (imageWords image) (m .place)) (λ f e z. let y : _≡_ {A = ℕ} 21 19 = cc in omega (arith, y))
+    (branch NotSpent (eqb (faultAt image room m) 0)
+    (branch NotSpent (eqb (wordAt image (m .place) .kind) 8) (λ f e z. let y : _≡_ {A = ℕ} 0 1 = cc in omega (arith, y))
+    (λ f e z. let y : _≡_ {A = ℕ} 0 1 = cc in omega (arith, y)))
+    (λ f e z.
+    let y : faultAt image room m ≡ 19 = cc in
+    fault-not-19 (imageWords image) room (length (m .counters)) (length (m .world .logged)) (wordAt image (m .place)) y))
+
+-- "A run may start from a stopped state": what the budget stopped goes on as if it had been larger
+pub run-in-two :
+    (image : List ℕ) (room a b steps : ℕ) (m : Machine) → ran image room a steps m .outcome ≡ 19
+    → ran image room (a + b) steps m ≡ ran image room b (steps + a) (ran image room a steps m .machine)
+run-in-two image room zero b steps m h =
+    let e : 0 + b ≡ b = omega arith in
+    let f : steps + 0 ≡ steps = omega arith in
+    rw (e, f)
+run-in-two image room (suc a) b steps m h =
+    let e : suc a + b ≡ suc (a + b) = omega arith in
+    let f : steps + suc a ≡ suc steps + a = omega arith in
+    rw (e, f) (pick (λ n. run-in-two image room a b (suc steps) n) (stepOf image room m) refl h)
+  where
+    near : Machine → Ended
+    near = ran image room a (suc steps)
+
+    pick :
+        ((n : Machine) → near n .outcome ≡ 19
+        → ran image room (a + b) (suc steps) n ≡ ran image room b (suc steps + a) (near n .machine)) → (s : Step)
+        → stepOf image room m ≡ s → follow near steps m s .outcome ≡ 19
+        → follow (ran image room (a + b) (suc steps)) steps m s ≡ ran image room b (suc steps + a) (follow near steps m s .machine)
+    pick i (goesOn n) p z = i n z
+    pick i halts p z = absurd (omega (arith, z))
+    pick i (faults f) p z = absurd (step-not-19 image room m f p z)
