@@ -71,11 +71,17 @@ fields : (r : Record) → badWord r ≡ false → goodWordFields r ≡ true
 unfolding badWord
 fields r h = not-false (goodWordFields r) (or-right (badWordKind r) (not (goodWordFields r)) (or-right (wrongWordMark r) _ h))
 
+count-value : (r : Record) → countFields r ≡ true → r .value ≤ 65535
+count-value r c =
+    leb-true (r .value) 65535 (and-right (eqb (r .port) 0) (leb (r .value) 65535) (and-right (eqb (r .width) 0) _ c))
+
 pub delay-value : (r : Record) → r .kind ≡ 3 → badWord r ≡ false → r .value ≤ 65535
 delay-value r k h =
     let g : (eqb (r .target) 0 && countFields r) ≡ true = rw k at (fields r h) in
-    let c = and-right (eqb (r .target) 0) (countFields r) g in
-    leb-true (r .value) 65535 (and-right (eqb (r .port) 0) (leb (r .value) 65535) (and-right (eqb (r .width) 0) _ c))
+    count-value r (and-right (eqb (r .target) 0) (countFields r) g)
+
+pub enter-value : (r : Record) → r .kind ≡ 4 → badWord r ≡ false → r .value ≤ 65535
+enter-value r k h = count-value r (rw k at (fields r h))
 
 pub kind-known : (r : Record) → badWord r ≡ false → (1 ≤ r .kind) × (r .kind ≤ 8)
 unfolding badWord

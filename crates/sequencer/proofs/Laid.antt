@@ -1,16 +1,26 @@
 -- The counters as an array: a store at the number in use is a push, one below it changes the top counter, and a 0 there
--- takes it out of use. Assumes nothing.
+-- takes it out of use. Laid out, the counters of a sequencer in range are its array, and counters in range are a sequencer's
+-- in range. Assumes nothing.
 use Prim.Native.Nat.{ℕ, zero, suc, _+_, _-_, _≤_, _<_}
 use mathlib.Core.Path.{_≡_, refl, ap, sym, _∙_}
-use mathlib.Core.Bool.{true}
+use mathlib.Core.Bool.{true, _&&_}
 use mathlib.Core.List.{List, [], _∷_}
+use native.Mathlib.Decide.{decLt}
 use native.Mathlib.Omega.{arith}
-use borrow.Author.Tests.{eqb-true, le-ltb, leb-true}
+use borrow.Author.Tests.{eqb-true, le-leb, le-ltb, leb-true, lt-ltb}
 use lib.Dec.{leb}
 use lib.ListN.{length, getD, set}
-use Rattle.mask.proofs.Every.{all-at, and-left, and-right}
+use Rattle.mask.proofs.Every.{all-at, all-true, and-both, and-left, and-right}
 use Rattle.script.specs.Scan.{stackOf}
-use Rattle.sequencer.specs.Sequencer.{counterInRange, countersOf, laid, laidOn, sequencerInRange, zeros}
+use Rattle.sequencer.specs.Sequencer.{
+  counterInRange,
+  countersOf,
+  laid,
+  laidOn,
+  sequencerAt,
+  sequencerInRange,
+  zeros,
+}
 use Rattle.sequencer.specs.declared.Sequencer.{Sequencer}
 
 store-laid : (cs rest : List ℕ) (x v i : ℕ) → set (laidOn cs rest) (length cs + i) v ≡ laidOn cs (set rest i v)
@@ -108,3 +118,63 @@ counters-laid s h =
     sym
     (ap (λ (k : ℕ). laidOn (stackOf n xs) (zeros (8 - k))) (stack-length n xs)
     ∙ ap (laidOn (stackOf n xs)) (sym z) ∙ lay-stack n (8 - n) xs ∙ ap (λ (k : ℕ). from k 0 xs) e)
+
+-- ---- counters in range, as a list and as the array
+-- "those in use 1 to 65,535"
+abbrev pub Counts : ℕ → Type 0
+Counts c = (1 ≤ c) × (c ≤ 65535)
+
+abbrev pub AllCount : List ℕ → Type 0
+AllCount [] = Unit {0}
+AllCount (c ∷ cs) = Counts c × AllCount cs
+
+stack-in-range : (s : Sequencer) → sequencerInRange s ≡ true → (n : ℕ) → n ≤ s .used → AllCount (stackOf n (s .counters))
+stack-in-range s h zero l = tt
+stack-in-range s h (suc n) l =
+    let c = getD (s .counters) n 0 in
+    let few = used-few s h in
+    let g : (leb 1 c && leb c 65535) ≡ true =
+    rw (lt-ltb n (s .used) l) at (in-range-at s h n (omega (arith, l, few))) in (
+      (leb-true 1 c (and-left _ _ g), leb-true c 65535 (and-right (leb 1 c) _ g)),
+      stack-in-range s h n (omega (arith, l)),
+    )
+
+pub counters-in-range : (s : Sequencer) → sequencerInRange s ≡ true → AllCount (countersOf s)
+counters-in-range s h = stack-in-range s h (s .used) (omega arith)
+
+zero-at : (n k : ℕ) → getD (zeros n) k 0 ≡ 0
+zero-at zero k = refl
+zero-at (suc n) zero = refl
+zero-at (suc n) (suc k) = zero-at n k
+
+used-at : (cs rest : List ℕ) → AllCount cs → (k : ℕ) → k < length cs → Counts (getD (laidOn cs rest) k 0)
+used-at [] rest h k l = absurd (omega (arith, l))
+used-at (c ∷ cs) rest h k l = pick (λ m. used-at cs (c ∷ rest) (h .1) k m) (decLt k (length cs))
+  where
+    pick : (k < length cs → Counts (getD (laidOn cs (c ∷ rest)) k 0)) → Dec (k < length cs)
+        → Counts (getD (laidOn cs (c ∷ rest)) k 0)
+    pick f (yes m) = f m
+    pick f (no m) =
+        let e : k ≡ length cs + 0 = omega (arith, l, m) in
+        rw (e, read-laid cs (c ∷ rest) 0) (h .0)
+
+rest-at : (cs : List ℕ) (k : ℕ) → length cs ≤ k → getD (laid cs) k 0 ≡ 0
+rest-at cs k l =
+    let e : k ≡ length cs + (k - length cs) = omega (arith, l) in
+    ap (λ (j : ℕ). getD (laid cs) j 0) e ∙ read-laid cs (zeros (8 - length cs)) (k - length cs)
+    ∙ zero-at (8 - length cs) (k - length cs)
+
+pub laid-in-range :
+    (place : ℕ) (cs : List ℕ) → length cs ≤ 8 → AllCount cs → sequencerInRange (sequencerAt place cs) ≡ true
+unfolding sequencerInRange
+laid-in-range place cs few h =
+    and-both (leb (length cs) 8) _ (le-leb (length cs) 8 few) (all-true 8 _ (λ k l. pick k (decLt k (length cs))))
+  where
+    pick : (k : ℕ) → Dec (k < length cs) → counterInRange (length cs) k (getD (laid cs) k 0) ≡ true
+    pick k (yes m) =
+        let c = getD (laid cs) k 0 in
+        let u = used-at cs (zeros (8 - length cs)) h k m in
+        rw (lt-ltb k (length cs) m) (and-both (leb 1 c) (leb c 65535) (le-leb 1 c (u .0)) (le-leb c 65535 (u .1)))
+    pick k (no m) =
+        let l : length cs ≤ k = omega (arith, m) in
+        rw (le-ltb k (length cs) l, rest-at cs k l)

@@ -4,3 +4,4 @@ pub mod EachKind
 pub mod Faults
 pub mod Going
 pub mod Answers
+pub mod Range

@@ -1,0 +1,306 @@
+-- A run hands back a device and a sequencer in range if it was given such, never makes more steps than its budget, never logs
+-- more values than the log has room for, and stopped by its budget goes on as if it had not been stopped. Assumes nothing.
+use Prim.Native.Nat.{ℕ, zero, suc, _+_, _-_, _≤_}
+use mathlib.Core.Path.{_≡_, refl}
+use mathlib.Core.Bool.{Bool, true, false, cond}
+use mathlib.Core.List.{List, [], _∷_, _++_}
+use native.Mathlib.Omega.{arith}
+use borrow.Author.Tests.{eqb-false, eqb-true}
+use lib.Dec.{eqb, leb}
+use lib.ListN.{length, length-append}
+use Rattle.access.specs.declared.Access.{Access}
+use Rattle.device.proofs.Range.{accessed-in-range, happened-in-range}
+use Rattle.device.specs.Device.{deviceInRange}
+use Rattle.device.specs.declared.Device.{Device}
+use Rattle.mask.proofs.Branch.{branch, branch-on}
+use Rattle.record.specs.declared.Record.{Record}
+use Rattle.script.specs.Refusals.{innermost, outer}
+use Rattle.semantics.specs.World.{
+  World,
+  answerTo,
+  delayed,
+  nextApplied,
+  readLogged,
+  readOf,
+  startWorld,
+  tested,
+  tickEvent,
+  valueRead,
+  writeOf,
+  written,
+}
+use Rattle.sequencer.specs.Run.{Ended, answerOf, follow, imageRun, ran, runAnswer, runRefusal}
+use Rattle.sequencer.specs.Sequencer.{countersOf, sequencerInRange}
+use Rattle.sequencer.specs.Step.{
+  Machine,
+  Step,
+  aimsBeyond,
+  did,
+  entered,
+  faultAt,
+  faults,
+  goesOn,
+  halts,
+  logFull,
+  looped,
+  machine,
+  ninthCounter,
+  noCounter,
+  stepOf,
+  wordFault,
+}
+use Rattle.sequencer.specs.Word.{badWord, imageWords, wordAt}
+use Rattle.sequencer.specs.declared.Ran.{Ran}
+use Rattle.sequencer.specs.declared.Sequencer.{Sequencer}
+use Rattle.sequencer.proofs.EachKind.{room-left}
+use Rattle.sequencer.proofs.Faults.{Clean, clean, enter-room, enter-value, read-room}
+use Rattle.sequencer.proofs.Laid.{AllCount, counters-in-range, laid-in-range, used-few, used-length}
+
+-- ---- what every step keeps, a run keeps
+-- a step that goes on is what a word without a fault does
+pub goes-on :
+    (image : List ℕ) (room : ℕ) (m n : Machine) → stepOf image room m ≡ goesOn n
+    → (faultAt image room m ≡ 0) × (did (wordAt image (m .place)) m ≡ n)
+unfolding stepOf
+goes-on image room m n h =
+    pick (leb (imageWords image) (m .place)) (eqb (faultAt image room m) 0) (eqb (wordAt image (m .place) .kind) 8) refl h
+  where
+    pick : (a b c : Bool) → eqb (faultAt image room m) 0 ≡ b
+        → cond a (faults 21)
+        (cond b (cond c halts (goesOn (did (wordAt image (m .place)) m))) (faults (faultAt image room m)))
+        ≡ goesOn n
+        → (faultAt image room m ≡ 0) × (did (wordAt image (m .place)) m ≡ n)
+    pick true b c q z = let y : _≡_ {A = ℕ} 0 1 = cc in absurd (omega arith)
+    pick false false c q z = let y : _≡_ {A = ℕ} 0 1 = cc in absurd (omega arith)
+    pick false true true q z = let y : _≡_ {A = ℕ} 0 1 = cc in absurd (omega arith)
+    pick false true false q z = (eqb-true (faultAt image room m) 0 q, cc)
+
+-- every word without a fault keeps it, in a log of so much room
+abbrev pub Keeps : (room : ℕ) → (Machine → Type 0) → Type 0
+Keeps room P =
+    (words : ℕ) (r : Record) (m : Machine) → Clean words room (length (m .counters)) (length (m .world .logged)) r → P m
+    → P (did r m)
+
+module _ (image : List ℕ) (room : ℕ) (P : Machine → Type 0) (keeps : Keeps room P) where
+  step-keeps : (m n : Machine) → stepOf image room m ≡ goesOn n → P m → P n
+  step-keeps m n e h =
+      let g = goes-on image room m n e in
+      let r = wordAt image (m .place) in
+      rw (g .1) at (keeps (imageWords image) r m (clean (imageWords image) room _ _ r (g .0)) h)
+
+  follow-keeps :
+      (rest : Machine → Ended) (steps : ℕ) (m : Machine) → P m → ((n : Machine) → P n → P (rest n .machine))
+      → (s : Step) → stepOf image room m ≡ s → P (follow rest steps m s .machine)
+  follow-keeps rest steps m h i (goesOn n) e = i n (step-keeps m n e h)
+  follow-keeps rest steps m h i halts e = h
+  follow-keeps rest steps m h i (faults f) e = h
+
+  pub ran-keeps : (left steps : ℕ) (m : Machine) → P m → P (ran image room left steps m .machine)
+  ran-keeps zero steps m h = h
+  ran-keeps (suc left) steps m h =
+      follow-keeps (ran image room left (suc steps)) steps m h (λ n k. ran-keeps left (suc steps) n k)
+      (stepOf image room m) refl
+
+-- ---- the device
+applied-in-range : (d : Device) (events : List ℕ) → deviceInRange d ≡ true → deviceInRange (nextApplied d events) ≡ true
+applied-in-range d [] h = h
+applied-in-range d (e ∷ es) h = happened-in-range d e h
+
+answered-in-range :
+    (w : World) (x : Access) → deviceInRange (w .device) ≡ true → deviceInRange (answerTo w x .device) ≡ true
+answered-in-range w x h =
+    accessed-in-range (nextApplied (w .device) (w .events)) x (applied-in-range (w .device) (w .events) h)
+
+-- ---- the machine
+pub record MachineInRange (m : Machine) : Type 0 where
+  pub device : deviceInRange (m .world .device) ≡ true
+  pub few : length (m .counters) ≤ 8
+  pub counters : AllCount (m .counters)
+
+-- a word that leaves the counters alone
+counters-kept :
+    {m : Machine} (p : ℕ) (w : World) → MachineInRange m → deviceInRange (w .device) ≡ true
+    → MachineInRange (machine p (m .counters) w)
+counters-kept p w h d = record { device = d; few = h .few; counters = h .counters }
+
+-- "4 enter (0 jumps to target, else pushes value)"
+entered-in-range :
+    (r : Record) (m : Machine) → r .value ≤ 65535 → (8 ≤ length (m .counters) → r .value ≡ 0) → MachineInRange m
+    → MachineInRange (entered r m)
+entered-in-range r m v room h =
+    branch-on MachineInRange (eqb (r .value) 0) (λ z. counters-kept (r .target) (m .world) h (h .device)) (λ z.
+    let n = eqb-false (r .value) 0 z in
+    record {
+      device = h .device;
+      few = room-left (length (m .counters)) (r .value) room n;
+      counters = ((omega (arith, n), v), h .counters);
+    })
+
+-- "5 loop end (one off the top; to target if not 0, else pop and next)"
+looped-in-range : (r : Record) (m : Machine) → MachineInRange m → MachineInRange (looped r m)
+looped-in-range r m h = pick (m .counters) (h .few) (h .counters)
+  where
+    pick : (cs : List ℕ) → length cs ≤ 8 → AllCount cs
+        → MachineInRange
+        (cond (eqb (innermost cs - 1) 0) (machine (suc (m .place)) (outer cs) (m .world))
+        (machine (r .target) ((innermost cs - 1) ∷ outer cs) (m .world)))
+    pick [] l k = record { device = h .device; few = l; counters = k }
+    pick (c ∷ cs) l k =
+        branch-on MachineInRange (eqb (c - 1) 0)
+        (λ z. record { device = h .device; few = omega (arith, l); counters = k .1 }) (λ z.
+        let n = eqb-false (c - 1) 0 z in
+        record { device = h .device; few = l; counters = ((omega (arith, n), omega (arith, k .0 .1)), k .1) })
+
+did-in-range : (room : ℕ) → Keeps room MachineInRange
+unfolding did written readLogged tested delayed
+did-in-range room words r m c h =
+    let P = MachineInRange in
+    let w = m .world in
+    let next = suc (m .place) in
+    let write = writeOf (r .port) (r .width) (r .value) in
+    let read = readOf (r .port) (r .width) in
+    branch P (eqb (r .kind) 1) (counters-kept next _ h (answered-in-range w write (h .device)))
+    (branch P (eqb (r .kind) 2) (counters-kept next _ h (answered-in-range w read (h .device)))
+    (branch P (eqb (r .kind) 3) (counters-kept next _ h (happened-in-range (w .device) (tickEvent (r .value)) (h .device)))
+    (branch-on P (eqb (r .kind) 4) (λ k.
+    let four = eqb-true (r .kind) 4 k in
+    entered-in-range r m (enter-value r four (c .good)) (enter-room (length (m .counters)) r four (c .counter)) h) (λ k.
+    branch P (eqb (r .kind) 5) (looped-in-range r m h)
+    (branch P (eqb (r .kind) 6) (counters-kept _ _ h (answered-in-range w read (h .device)))
+    (counters-kept (r .target) w h (h .device)))))))
+
+-- ---- what a run hands back
+abbrev startMachine : Device → Sequencer → List ℕ → Machine
+startMachine d s events = machine (s .place) (countersOf s) (startWorld d events)
+
+start-in-range :
+    (d : Device) (s : Sequencer) (events : List ℕ) → deviceInRange d ≡ true → sequencerInRange s ≡ true
+    → MachineInRange (startMachine d s events)
+start-in-range d s events h k = record {
+  device = h;
+  few = rw (used-length s) at (used-few s k);
+  counters = counters-in-range s k;
+}
+
+abbrev BothInRange : Ran → Type 0
+BothInRange r = (deviceInRange (r .device) ≡ true) × (sequencerInRange (r .sequencer) ≡ true)
+
+answer-in-range : (events : List ℕ) (e : Ended) → MachineInRange (e .machine) → BothInRange (answerOf events e)
+answer-in-range events e h =
+    (h .device, laid-in-range (e .machine .place) (e .machine .counters) (h .few) (h .counters))
+
+pub run-in-range :
+    (image : List ℕ) (d : Device) (s : Sequencer) (events : List ℕ) (budget : ℕ) (log : List ℕ) → deviceInRange d ≡ true
+    → sequencerInRange s ≡ true
+    → (deviceInRange (runAnswer image d s events budget log .device) ≡ true)
+    × (sequencerInRange (runAnswer image d s events budget log .sequencer) ≡ true)
+unfolding runAnswer imageRun
+run-in-range image d s events budget log h k =
+    branch BothInRange (eqb (runRefusal image d s events .number) 0)
+    (answer-in-range events (imageRun image d s events budget (length log))
+    (ran-keeps image (length log) MachineInRange (did-in-range (length log)) budget 0 (startMachine d s events)
+    (start-in-range d s events h k)))
+    (h, k)
+
+-- ---- the steps
+follow-within :
+    (rest : Machine → Ended) (left steps : ℕ) (m : Machine) → ((n : Machine) → rest n .steps ≤ suc steps + left)
+    → (s : Step) → follow rest steps m s .steps ≤ steps + suc left
+follow-within rest left steps m h (goesOn n) = omega (arith, h n)
+follow-within rest left steps m h halts = omega arith
+follow-within rest left steps m h (faults f) = omega arith
+
+pub steps-within :
+    (image : List ℕ) (room left steps : ℕ) (m : Machine) → ran image room left steps m .steps ≤ steps + left
+steps-within image room zero steps m = omega arith
+steps-within image room (suc left) steps m =
+    follow-within (ran image room left (suc steps)) left steps m (λ n. steps-within image room left (suc steps) n)
+    (stepOf image room m)
+
+-- "bounded by the lent budget"
+pub run-steps-within :
+    (image : List ℕ) (d : Device) (s : Sequencer) (events : List ℕ) (budget room : ℕ)
+    → imageRun image d s events budget room .steps ≤ budget
+unfolding imageRun
+run-steps-within image d s events budget room = omega (arith, steps-within image room budget 0 (startMachine d s events))
+
+-- ---- the log
+abbrev LogsWithin : (room : ℕ) → Machine → Type 0
+LogsWithin room m = length (m .world .logged) ≤ room
+
+did-logs : (room : ℕ) → Keeps room (LogsWithin room)
+unfolding did written readLogged tested delayed
+did-logs room words r m c h =
+    let P = LogsWithin room in
+    let logged = m .world .logged in
+    let none : length (logged ++ []) ≤ room = omega (arith, length-append logged []) in
+    branch P (eqb (r .kind) 1) none
+    (branch-on P (eqb (r .kind) 2) (λ k.
+    let left = read-room room (length logged) r (eqb-true (r .kind) 2 k) (c .log-room) in
+    let value = valueRead (r .port) (r .width) (m .world) in
+    omega (arith, left, length-append logged (value ∷ []))) (λ k.
+    branch P (eqb (r .kind) 3) h
+    (branch P (eqb (r .kind) 4) (branch P (eqb (r .value) 0) h h)
+    (branch P (eqb (r .kind) 5) (branch P (eqb (innermost (m .counters) - 1) 0) h h)
+    (branch P (eqb (r .kind) 6) none h)))))
+
+pub never-logs-beyond :
+    (image : List ℕ) (d : Device) (s : Sequencer) (events : List ℕ) (budget room : ℕ)
+    → length (imageRun image d s events budget room .machine .world .logged) ≤ room
+unfolding imageRun
+never-logs-beyond image d s events budget room =
+    ran-keeps image room (LogsWithin room) (did-logs room) budget 0 (startMachine d s events) (omega arith)
+
+-- ---- a run in two
+-- no word's fault is 19
+abbrev Not19 : ℕ → Type 0
+Not19 n = n ≡ 19 → ⊥
+
+fault-not-19 : (words room used logged : ℕ) (r : Record) → Not19 (wordFault words room used logged r)
+unfolding wordFault
+fault-not-19 words room used logged r =
+    branch Not19 (badWord r) (λ e. omega (arith, e))
+    (branch Not19 (aimsBeyond words r) (λ e. omega (arith, e))
+    (branch Not19 (ninthCounter used r) (λ e. omega (arith, e))
+    (branch Not19 (noCounter used r) (λ e. omega (arith, e))
+    (branch Not19 (logFull room logged r) (λ e. omega (arith, e)) (λ e. omega (arith, e))))))
+
+-- nor a step's
+abbrev NotSpent : Step → Type 0
+NotSpent s = (f : ℕ) → s ≡ faults f → Not19 f
+
+step-not-19 : (image : List ℕ) (room : ℕ) (m : Machine) → NotSpent (stepOf image room m)
+unfolding stepOf
+step-not-19 image room m =
+    branch NotSpent (leb (imageWords image) (m .place)) (λ f e z. let y : _≡_ {A = ℕ} 21 19 = cc in omega (arith, y))
+    (branch NotSpent (eqb (faultAt image room m) 0)
+    (branch NotSpent (eqb (wordAt image (m .place) .kind) 8) (λ f e z. let y : _≡_ {A = ℕ} 0 1 = cc in omega (arith, y))
+    (λ f e z. let y : _≡_ {A = ℕ} 0 1 = cc in omega (arith, y)))
+    (λ f e z.
+    let y : faultAt image room m ≡ 19 = cc in
+    fault-not-19 (imageWords image) room (length (m .counters)) (length (m .world .logged)) (wordAt image (m .place)) y))
+
+-- "A run may start from a stopped state": what the budget stopped goes on as if it had been larger
+pub run-in-two :
+    (image : List ℕ) (room a b steps : ℕ) (m : Machine) → ran image room a steps m .outcome ≡ 19
+    → ran image room (a + b) steps m ≡ ran image room b (steps + a) (ran image room a steps m .machine)
+run-in-two image room zero b steps m h =
+    let e : 0 + b ≡ b = omega arith in
+    let f : steps + 0 ≡ steps = omega arith in
+    rw (e, f)
+run-in-two image room (suc a) b steps m h =
+    let e : suc a + b ≡ suc (a + b) = omega arith in
+    let f : steps + suc a ≡ suc steps + a = omega arith in
+    rw (e, f) (pick (λ n. run-in-two image room a b (suc steps) n) (stepOf image room m) refl h)
+  where
+    near : Machine → Ended
+    near = ran image room a (suc steps)
+
+    pick :
+        ((n : Machine) → near n .outcome ≡ 19
+        → ran image room (a + b) (suc steps) n ≡ ran image room b (suc steps + a) (near n .machine)) → (s : Step)
+        → stepOf image room m ≡ s → follow near steps m s .outcome ≡ 19
+        → follow (ran image room (a + b) (suc steps)) steps m s ≡ ran image room b (suc steps + a) (follow near steps m s .machine)
+    pick i (goesOn n) p z = i n z
+    pick i halts p z = absurd (omega (arith, z))
+    pick i (faults f) p z = absurd (step-not-19 image room m f p z)
