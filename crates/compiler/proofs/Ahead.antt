@@ -9,10 +9,10 @@ use lib.Dec.{eqb}
 use lib.ListN.{length}
 use native.Mathlib.Omega.{arith}
 use Rattle.record.specs.declared.Record.{Record}
-use Rattle.script.specs.Nested.{Body, done, write, read, delay, repeat, if, ifElse, readingOf, bodyIn, scriptBody}
+use Rattle.script.specs.Nested.{Body, done, write, read, delay, repeat, if, ifElse, readingOf, bodyIn, scriptBody, elseRecord, endRecord, flat}
 use Rattle.script.specs.Records.{recordsOf}
 use Rattle.script.specs.Refusals.{firstFault, scriptRefusal}
-use Rattle.script.proofs.Flat.{accepts, flat, elseRecord, endRecord, reading-flat}
+use Rattle.script.proofs.Flat.{accepts, reading-flat}
 use Rattle.compiler.specs.Emit.{ahead, depthAfter, emitFlat, stops}
 use Rattle.compiler.specs.Words.{behind, emit, halt, word, wordsOf}
 

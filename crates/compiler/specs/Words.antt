@@ -1,5 +1,5 @@
--- Document 01, "Scripts and images": the words of a script. "Word kinds: 1, 2, 3 as above; 4 enter; 5 loop end; 6 test;
--- 7 jump; 8 halt." "Word mark C3 3C."
+-- Document 01, "Scripts and images": the words of a script. "Word kinds: 1, 2, 3 as above; 4 enter [..]; 5 loop end [..];
+-- 6 test [..]; 7 jump; 8 halt." "word mark C3 3C"
 use Prim.Native.Nat.{ℕ, suc}
 use mathlib.Core.List.{List, [], _∷_, _++_}
 use Rattle.record.specs.Record.{bytesOf}

@@ -59,7 +59,7 @@ fn depth_after(depth: usize, kind: u32) -> usize
     depth
 }
 
-// The word that an if counts in advance for its end is none.
+// The place behind a record that is passed over: an if counts none, since its end, which gives no word, counts one.
 fn counted(at: u32, kind: u32) -> u32
     requires { ⌜ at < 4000 ⌝ }
     ensures { λ r. ⌜ r ≡ cond (eqb kind 5) at (suc at) ⌝ }
@@ -295,7 +295,7 @@ pub fn compile(script: &[u8], image: &mut [u8]) -> Compiled
     if too_short(image.len(), found.words) {
         return Compiled {
             refusal: 9,
-            place: (count % 4096) as u32,
+            place: (count % 4096) as u32, // at most 1,024: the remainder only bounds it for the cast
             words: 0,
         };
     }

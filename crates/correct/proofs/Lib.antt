@@ -6,5 +6,6 @@ pub mod Ports
 pub mod Words
 pub mod Simulation
 pub mod Whole
+pub mod Fills
 pub mod Demand3
 pub mod OneCall

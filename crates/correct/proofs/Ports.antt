@@ -5,8 +5,8 @@ use mathlib.Core.List.{List, [], _∷_}
 use native.Mathlib.Omega.{arith}
 use Rattle.record.specs.Record.{recordAt}
 use Rattle.record.specs.declared.Record.{Record}
-use Rattle.script.proofs.Flat.{elseRecord, endRecord, flat, reading-flat}
-use Rattle.script.specs.Nested.{Body, done, write, read, delay, repeat, if, ifElse, bodyIn, readingOf}
+use Rattle.script.proofs.Flat.{reading-flat}
+use Rattle.script.specs.Nested.{Body, done, write, read, delay, repeat, if, ifElse, bodyIn, readingOf, elseRecord, endRecord, flat}
 use Rattle.script.specs.Records.{recordCount, recordsFrom, recordsOf}
 use Rattle.script.specs.Refusals.{firstFault}
 use Rattle.correct.specs.Demand3.{Bytes}

@@ -211,8 +211,9 @@ ifWords mask =
 unfoldable pub p11 : Bool
 p11 =
     eqb (scriptRefusal (ifScript 0x01) .number) 0
+    && (eqb (scriptRefusal (ifScript 0x00) .number) 0
     && (sameWords (wordsOf (ifScript 0x01)) (ifWords 0x01)
-    && (sameWords (wordsOf (ifScript 0x00)) (ifWords 0x00) && (stepsOf (ifScript 0x01) 4 && stepsOf (ifScript 0x00) 3)))
+    && (sameWords (wordsOf (ifScript 0x00)) (ifWords 0x00) && (stepsOf (ifScript 0x01) 4 && stepsOf (ifScript 0x00) 3))))
 
 abbrev pub cases : List Bool
 cases = p1 ∷ p2 ∷ p3 ∷ p4 ∷ p5 ∷ p6 ∷ p7 ∷ p8 ∷ p9 ∷ p10 ∷ p11 ∷ []

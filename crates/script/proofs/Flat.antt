@@ -4,36 +4,16 @@ use Prim.Native.Nat.{ℕ, zero, suc, _≤_, _<_}
 use mathlib.Core.Path.{_≡_, refl, sym, ap, _∙_}
 use mathlib.Core.Bool.{Bool, true, false, cond, true≢false, false≢true, _&&_, _||_}
 use mathlib.Core.List.{List, [], _∷_}
-use borrow.Author.Tests.{eqb-true, eqb-false, leb-true, leb-false, ltb-false, not-false}
+use borrow.Author.Tests.{eqb-true, eqb-false, leb-true, leb-false, le-ltb, ltb-false, not-false}
 use lib.Dec.{eqb, leb}
 use lib.ListN.{length}
 use native.Mathlib.Omega.{arith}
 use Rattle.record.specs.declared.Record.{Record}
 use Rattle.width.specs.Width.{fitsWidth, isWidth}
-use Rattle.script.specs.Nested.{Body, done, write, read, delay, repeat, if, ifElse, Reading, top, ended, elsed, broken, before, repeated, elseTested, tested, readingOf, bodyIn}
+use Rattle.script.specs.Nested.{Body, done, write, read, delay, repeat, if, ifElse, Reading, top, ended, elsed, broken, before, repeated, elseTested, tested, readingOf, bodyIn, scriptRecord, elseRecord, endRecord, flat}
 use Rattle.script.specs.Fields.{countFields, noFields, readFields, valueFields}
 use Rattle.script.specs.Records.{recordCount, recordsOf}
 use Rattle.script.specs.Refusals.{Refusal, badFields, badKind, badLength, firstFault, goodFields, misplaced, openAfter, recordFault, refusal, repeatsIn, scriptRefusal, tooDeep, tooManyWords, wordsIn, wrongMark}
-
-abbrev pub scriptRecord : (kind width port value : ℕ) → Record
-scriptRecord k w p v = record { mark = 0xA55A; kind = k; width = w; port = p; target = 0; value = v }
-
-abbrev pub elseRecord : Record
-elseRecord = scriptRecord 6 0 0 0
-
-abbrev pub endRecord : Record
-endRecord = scriptRecord 7 0 0 0
-
--- the records of a body, and then a tail
-abbrev pub flat : Body → List Record → List Record
-flat done tl = tl
-flat (write p w v rest) tl = scriptRecord 1 w p v ∷ flat rest tl
-flat (read p w rest) tl = scriptRecord 2 w p 0 ∷ flat rest tl
-flat (delay n rest) tl = scriptRecord 3 0 0 n ∷ flat rest tl
-flat (repeat n b rest) tl = scriptRecord 4 0 0 n ∷ flat b (endRecord ∷ flat rest tl)
-flat (if p w m b rest) tl = scriptRecord 5 w p m ∷ flat b (endRecord ∷ flat rest tl)
-flat (ifElse p w m b c rest) tl =
-    scriptRecord 5 w p m ∷ flat b (elseRecord ∷ flat c (endRecord ∷ flat rest tl))
 
 -- the records of all that is read
 abbrev pub unread : Reading → List Record
@@ -341,3 +321,10 @@ accepts bytes h =
     let s = settles (badLength bytes) (eqb (f .number) 0) (tooManyWords bytes) f (recordCount bytes)
     (eqb-false (f .number) 0) (eqb-true (f .number) 0) h in
     record { length-good = s .0; faultless = s .1; few-words = ltb-false 1024 (wordsIn bytes) (s .2) }
+
+-- and the other way
+pub accepted-by :
+    (bytes : List ℕ) → badLength bytes ≡ false → firstFault [] 0 (recordsOf bytes) .number ≡ 0 → wordsIn bytes ≤ 1024
+    → scriptRefusal bytes .number ≡ 0
+unfolding scriptRefusal
+accepted-by bytes l f w = rw (l, f, le-ltb 1024 (wordsIn bytes) w)

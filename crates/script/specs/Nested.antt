@@ -6,7 +6,7 @@ use lib.Dec.{eqb}
 use Rattle.record.specs.declared.Record.{Record}
 use Rattle.script.specs.Records.{recordsOf}
 
--- a run of records at one level; the last argument is what follows
+-- records in order at one level; the last argument is what follows
 pub data Body : Type 0 where
   done : Body
   write : (port width value : ℕ) → Body → Body
@@ -62,7 +62,7 @@ abbrev pub readingOf : List Record → Reading
 readingOf [] = top done
 readingOf (r ∷ rs) = readRecord r (readingOf rs)
 
--- the body of a script that is accepted
+-- the body of a script that is accepted; the other readings are of lists that are not
 abbrev pub bodyIn : Reading → Body
 bodyIn (top b) = b
 bodyIn (ended b n) = done
@@ -71,3 +71,23 @@ bodyIn broken = done
 
 unfoldable pub scriptBody : List ℕ → Body
 scriptBody bytes = bodyIn (readingOf (recordsOf bytes))
+
+-- ---- a body laid flat again: its records, and then a tail
+abbrev pub scriptRecord : (kind width port value : ℕ) → Record
+scriptRecord k w p v = record { mark = 0xA55A; kind = k; width = w; port = p; target = 0; value = v }
+
+abbrev pub elseRecord : Record
+elseRecord = scriptRecord 6 0 0 0
+
+abbrev pub endRecord : Record
+endRecord = scriptRecord 7 0 0 0
+
+abbrev pub flat : Body → List Record → List Record
+flat done tl = tl
+flat (write p w v rest) tl = scriptRecord 1 w p v ∷ flat rest tl
+flat (read p w rest) tl = scriptRecord 2 w p 0 ∷ flat rest tl
+flat (delay n rest) tl = scriptRecord 3 0 0 n ∷ flat rest tl
+flat (repeat n b rest) tl = scriptRecord 4 0 0 n ∷ flat b (endRecord ∷ flat rest tl)
+flat (if p w m b rest) tl = scriptRecord 5 w p m ∷ flat b (endRecord ∷ flat rest tl)
+flat (ifElse p w m b c rest) tl =
+    scriptRecord 5 w p m ∷ flat b (elseRecord ∷ flat c (endRecord ∷ flat rest tl))

@@ -39,10 +39,10 @@ abbrev pub eventsBehind : List ℕ → List ℕ
 eventsBehind [] = []
 eventsBehind (e ∷ es) = es
 
--- a test is a read
 abbrev pub writeOf : (port width value : ℕ) → Access
 writeOf p w v = record { write = true; width = w; port = p; value = v }
 
+-- a read's access, and a test's
 abbrev pub readOf : (port width : ℕ) → Access
 readOf p w = record { write = false; width = w; port = p; value = 0 }
 
@@ -64,10 +64,11 @@ after w x values = record {
 unfoldable pub written : (port width value : ℕ) → World → World
 written p wd v w = after w (writeOf p wd v) []
 
--- "A read appends its value to the log, at any status"
+-- at any status
 unfoldable pub valueRead : (port width : ℕ) → World → ℕ
 valueRead p wd w = answerTo w (readOf p wd) .answer .value
 
+-- "A read appends its value to the log, at any status"
 unfoldable pub readLogged : (port width : ℕ) → World → World
 readLogged p wd w = after w (readOf p wd) (valueRead p wd w ∷ [])
 

@@ -18,7 +18,7 @@ wordAt image place = recordAt image (12 * place)
 abbrev pub wrongWordMark : Record → Bool
 wrongWordMark r = not (eqb (r .mark) 0x3CC3)
 
--- "1, 2, 3 as above; 4 enter; 5 loop end; 6 test; 7 jump; 8 halt"
+-- "1, 2, 3 as above; 4 enter [..]; 5 loop end [..]; 6 test [..]; 7 jump; 8 halt"
 abbrev pub badWordKind : Record → Bool
 badWordKind r = not (leb 1 (r .kind) && leb (r .kind) 8)
 
