@@ -1,0 +1,37 @@
+/* Reads a script on standard input, compiles it, runs it on a fresh device, and prints what it logged; then reads one
+ * register of the device that the run left. */
+#include <inttypes.h>
+#include <stdio.h>
+
+#include "runnelopal.h"
+
+int main(void)
+{
+    static uint8_t script[RUNNELOPAL_IMAGE + 12];
+    static uint8_t image[RUNNELOPAL_IMAGE];
+    static uint32_t log[1024];
+    uint8_t state[RUNNELOPAL_STATE];
+    uint32_t events[1] = {0};
+    uint64_t answer[6] = {0};
+
+    size_t length = fread(script, 1, sizeof script, stdin);
+    uint32_t refusal = runnelopal_compile(script, length, image, sizeof image, answer, 6);
+    if (refusal != 0) {
+        printf("refused %" PRIu32 " at %" PRIu64 "\n", refusal, answer[0]);
+        return 0;
+    }
+    size_t words = answer[1];
+    printf("%zu words\n", words);
+
+    uint32_t outcome =
+        runnelopal_run(image, 12 * words, events, 0, 100000, log, 1024, state, sizeof state, answer, 6);
+    uint64_t steps = answer[1];
+    uint64_t logged = answer[3];
+    for (size_t k = 0; k < logged; k++)
+        printf("logged %08" PRIX32 "\n", log[k]);
+    printf("ended with %" PRIu32 " after %" PRIu64 " steps\n", outcome, steps);
+
+    refusal = runnelopal_access(state, sizeof state, false, 1, 0x2E, 0, answer, 6);
+    printf("002E reads %02" PRIX64 ", status %" PRIu64 ", refusal %" PRIu32 "\n", answer[2], answer[1], refusal);
+    return 0;
+}
