@@ -1,0 +1,46 @@
+-- A slice of 106 bytes takes a state whole and is read whole; one of another length does neither. Assumes nothing.
+use Prim.Native.Nat.{ℕ, _+_, _≤_}
+use mathlib.Core.Path.{_≡_, refl, ap, sym, _∙_}
+use mathlib.Core.List.{List, [], _++_, append-nil}
+use lib.ListN.{drop, drop-of-length-le, length}
+use lib.Seq.{paste, take-length}
+use borrow.Author.Tests.{eq-eqb, ne-eqb}
+use native.Mathlib.Omega.{arith}
+use Rattle.device.specs.declared.Device.{Device}
+use Rattle.state.specs.State.{acpiBytes, loaded, loadedFrom, refused, saved, stateBytes}
+use Rattle.state.specs.declared.Loaded.{Loaded}
+
+pub state-length : (d : Device) → length (stateBytes d) ≡ 106
+unfolding stateBytes acpiBytes
+state-length d = refl
+
+-- a part as long as the list that it is put into takes the place of all of it
+pub whole : (lent part : List ℕ) → length part ≡ length lent → paste lent 0 part (length part) ≡ part
+whole lent part e =
+    let behind : length lent ≤ 0 + length part = omega arith in
+    let gone : drop (0 + length part) lent ≡ [] = drop-of-length-le lent behind in
+    rw (take-length part, gone, append-nil)
+
+pub saved-whole :
+    (d : Device) (lent bytes : List ℕ) → length lent ≡ 106 → bytes ≡ paste lent 0 (stateBytes d) (length (stateBytes d))
+    → bytes ≡ saved d lent
+unfolding saved
+saved-whole d lent bytes n e =
+    rw (eq-eqb (length lent) 106 n) (e ∙ whole lent (stateBytes d) (state-length d ∙ sym n))
+
+pub saved-not : (d : Device) (lent : List ℕ) → (length lent ≡ 106 → ⊥) → lent ≡ saved d lent
+unfolding saved
+saved-not d lent n = rw (ne-eqb (length lent) 106 n)
+
+pub loaded-whole :
+    (bytes read zeros : List ℕ) (r : Loaded) → length bytes ≡ 106 → length zeros ≡ 106
+    → read ≡ paste zeros 0 bytes (length bytes)
+    → r ≡ loadedFrom read
+    → r ≡ loaded bytes
+unfolding loaded
+loaded-whole bytes read zeros r n z e l =
+    rw (eq-eqb (length bytes) 106 n) (l ∙ ap loadedFrom (e ∙ whole zeros bytes (n ∙ sym z)))
+
+pub loaded-not : (bytes : List ℕ) → (length bytes ≡ 106 → ⊥) → refused ≡ loaded bytes
+unfolding loaded
+loaded-not bytes n = rw (ne-eqb (length bytes) 106 n)

@@ -1,0 +1,28 @@
+-- `state::save` meets its contract: the state takes the place of 106 bytes. Assumes nothing.
+use Rattle.state.proofs.Slices.{saved-not, saved-whole}
+use borrow.Author.Needs.{needs}
+use Rattle.state.proofs.save.Statement.{statement}
+use Rattle.state.proofs.save.Tie as tie
+
+bytes-of-requires : tie.Need-bytes-of-requires
+bytes-of-requires c κs = search needs
+
+slice-aggregate-put : tie.Need-slice-aggregate-put
+slice-aggregate-put c = search needs
+
+put-requires : tie.Need-put-requires
+put-requires c κs = search needs
+
+same-length : tie.Need-same-length
+same-length c = search needs
+
+returns : tie.Need-returns
+returns c = saved-whole (c .before .before .before .before .before .before .before .before .args .device) (c .before .before .before .before .before .before .before .before .args .bytes .now) _ (c .before .before .before .before .before .before .if1 .taken) (rw (c .before .before .before .before .bytes-of .ensures) at (c .before .before .put .ensures))
+
+returns-2 : tie.Need-returns-2
+returns-2 c = saved-not (c .before .before .args .device) (c .before .before .args .bytes .now) (c .if1 .left)
+
+pub save-spec : {M : Type 1} → statement M
+save-spec =
+    tie.close
+    (tie.spec bytes-of-requires slice-aggregate-put put-requires same-length returns returns-2)
