@@ -54,7 +54,7 @@ fn no_outputs() -> Outputs
     }
 }
 
-fn access_refused(number: u32, device: Device) -> Accessed
+pub fn access_refused(number: u32, device: Device) -> Accessed
     ensures { λ r. ⌜ r ≡ accessRefused number device ⌝ }
 {
     let outputs = no_outputs();
@@ -84,7 +84,7 @@ fn access_done(reached: Reached) -> Accessed
     }
 }
 
-fn event_refused(number: u32, device: Device) -> Happened
+pub fn event_refused(number: u32, device: Device) -> Happened
     ensures { λ r. ⌜ r ≡ eventRefused number device ⌝ }
 {
     let outputs = no_outputs();

@@ -1,11 +1,20 @@
--- What the exported calls leave in the slice that they are lent for their numbers.
+-- What the exported calls answer, and what they leave in a saved state and in the slice that they are lent for their numbers.
 use Prim.Native.Nat.{ℕ, suc}
+use mathlib.Core.Bool.{Bool, cond}
 use mathlib.Core.List.{List, [], _∷_}
+use lib.Dec.{eqb}
 use lib.ListN.{set}
+use Rattle.access.specs.declared.Access.{Access}
 use Rattle.device.specs.Device.{freshDevice}
+use Rattle.device.specs.Lone.{accessRefused, eventRefused, loneAccess, loneEvent}
+use Rattle.device.specs.declared.Device.{Device}
+use Rattle.device.specs.declared.Outputs.{Outputs}
+use Rattle.device.specs.declared.lone.Accessed.{Accessed}
+use Rattle.device.specs.declared.lone.Happened.{Happened}
 use Rattle.sequencer.specs.Run.{runAnswer}
 use Rattle.sequencer.specs.Sequencer.{freshSequencer}
 use Rattle.sequencer.specs.declared.Ran.{Ran}
+use Rattle.state.specs.State.{bit, loaded, saved}
 
 -- numbers one after the other from a place on; those that the slice has no room for are dropped
 abbrev pub numbered : ℕ → List ℕ → List ℕ → List ℕ
@@ -18,3 +27,28 @@ freshRun image events budget log = runAnswer image freshDevice freshSequencer ev
 
 abbrev pub runNumbers : Ran → List ℕ
 runNumbers r = r .place ∷ r .steps ∷ r .taken ∷ r .logged ∷ r .sequencer .place ∷ []
+
+abbrev pub outputNumbers : Outputs → List ℕ
+outputNumbers o = bit (o .sci) ∷ bit (o .smi) ∷ bit (o .monitor) ∷ []
+
+-- ---- a saved device: bytes that are no state are refused with 11, as a state out of range is
+unfoldable pub savedAccess : List ℕ → Access → Accessed
+savedAccess state x =
+    cond (loaded state .valid) (loneAccess (loaded state .device) x) (accessRefused 11 (loaded state .device))
+
+unfoldable pub savedEvent : List ℕ → ℕ → Happened
+savedEvent state n =
+    cond (loaded state .valid) (loneEvent (loaded state .device) n) (eventRefused 11 (loaded state .device))
+
+-- a refusal leaves the state as it was
+abbrev pub kept : ℕ → Device → List ℕ → List ℕ
+kept refusal d state = cond (eqb refusal 0) (saved d state) state
+
+abbrev pub accessOf : Bool → (width port value : ℕ) → Access
+accessOf write w p v = record { write = write; width = w; port = p; value = v }
+
+abbrev pub accessNumbers : Accessed → List ℕ
+accessNumbers r = r .place ∷ r .status ∷ r .value ∷ outputNumbers (r .outputs)
+
+abbrev pub eventNumbers : Happened → List ℕ
+eventNumbers r = r .place ∷ outputNumbers (r .outputs)

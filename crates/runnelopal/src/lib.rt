@@ -1,15 +1,35 @@
 // The library for programs in other languages: numbers and slices only. A call's result is its refusal, or how a run ended;
 // further numbers go into a slice that is lent for them, as many as it has room for.
+use access::Access;
 use device::Device;
+use device::Outputs;
+use device::lone::Accessed;
+use device::lone::Happened;
+use sequencer::Ran;
 use sequencer::Sequencer;
 ghost use mathlib.Core.Path.{_≡_};
 ghost use mathlib.Core.List.{[], _∷_};
-ghost use lib.ListN.{set};
+ghost use mathlib.Core.Bool.{cond};
+ghost use Prim.Native.Nat.{_<_};
+ghost use lib.Dec.{eqb};
+ghost use lib.ListN.{length, set};
 ghost use Rattle.compiler.specs.Compile.{compiled, imageAfter};
 ghost use Rattle.device.specs.Device.{freshDevice};
 ghost use Rattle.sequencer.specs.Run.{logAfter};
 ghost use Rattle.sequencer.specs.Sequencer.{freshSequencer};
-ghost use Rattle.runnelopal.specs.Calls.{numbered, freshRun, runNumbers};
+ghost use Rattle.state.specs.State.{bit, saved};
+ghost use Rattle.runnelopal.specs.Calls.{
+  numbered,
+  outputNumbers,
+  freshRun,
+  runNumbers,
+  accessOf,
+  accessNumbers,
+  savedAccess,
+  eventNumbers,
+  savedEvent,
+  kept,
+};
 
 fn put(answer: &mut [u64], at: usize, number: u64)
     ensures { λ _. ⌜ now (answer .exit) ≡ set (now (answer .entry)) at number ⌝ }
@@ -31,27 +51,148 @@ pub extern "C" fn runnelopal_compile(script: &[u8], image: &mut [u8], answer: &m
     r.refusal
 }
 
-// Runs an image on a fresh device from a fresh sequencer. Numbers: the place of a refusal, the steps, the events taken, the
-// values logged, the place of the sequencer.
-#[no_mangle]
-pub extern "C" fn runnelopal_run(
-    image: &[u8],
-    events: &[u32],
-    budget: u32,
-    log: &mut [u32],
-    answer: &mut [u64],
-) -> u32
-    ensures { λ r. ⌜ (r ≡ freshRun (now (image .entry)) (now (events .entry)) budget (now (log .entry)) .outcome) × (now (log .exit) ≡ logAfter (now (image .entry)) freshDevice freshSequencer (now (events .entry)) budget (now (log .entry))) ⌝ }
-    ensures { λ _. ⌜ now (answer .exit) ≡ numbered 0 (runNumbers (freshRun (now (image .entry)) (now (events .entry)) budget (now (log .entry)))) (now (answer .entry)) ⌝ }
+fn put_flag(answer: &mut [u64], at: usize, on: bool)
+    ensures { λ _. ⌜ now (answer .exit) ≡ set (now (answer .entry)) at (bit on) ⌝ }
 {
-    let device = Device::fresh();
-    let fresh = Sequencer::fresh();
-    let r = sequencer::run(image, device, fresh, events, budget, log);
+    if on {
+        put(answer, at, 1);
+    } else {
+        put(answer, at, 0);
+    }
+}
+
+// SCI, SMI and the monitor interrupt, from a place on.
+fn put_outputs(answer: &mut [u64], at: usize, outputs: Outputs)
+    requires { ⌜ at < 1000 ⌝ }
+    ensures { λ _. ⌜ now (answer .exit) ≡ numbered at (outputNumbers outputs) (now (answer .entry)) ⌝ }
+{
+    put_flag(answer, at, outputs.sci);
+    put_flag(answer, at + 1, outputs.smi);
+    put_flag(answer, at + 2, outputs.monitor);
+}
+
+fn put_run(answer: &mut [u64], r: Ran)
+    ensures { λ _. ⌜ now (answer .exit) ≡ numbered 0 (runNumbers r) (now (answer .entry)) ⌝ }
+{
     let sequencer = r.sequencer;
     put(answer, 0, r.place as u64);
     put(answer, 1, r.steps as u64);
     put(answer, 2, r.taken as u64);
     put(answer, 3, r.logged as u64);
     put(answer, 4, sequencer.place as u64);
+}
+
+// Runs an image on a fresh device from a fresh sequencer, and leaves the device's state in a lent slice of 106 bytes. Numbers:
+// the place of a refusal, the steps, the events taken, the values logged, the place of the sequencer.
+#[no_mangle]
+pub extern "C" fn runnelopal_run(image: &[u8], events: &[u32], budget: u32, log: &mut [u32], state: &mut [u8], answer: &mut [u64]) -> u32
+    ensures { λ r. ⌜ (r ≡ freshRun (now (image .entry)) (now (events .entry)) budget (now (log .entry)) .outcome) × (now (log .exit) ≡ logAfter (now (image .entry)) freshDevice freshSequencer (now (events .entry)) budget (now (log .entry))) ⌝ }
+    ensures { λ _. ⌜ now (state .exit) ≡ saved (freshRun (now (image .entry)) (now (events .entry)) budget (now (log .entry)) .device) (now (state .entry)) ⌝ }
+    ensures { λ _. ⌜ now (answer .exit) ≡ numbered 0 (runNumbers (freshRun (now (image .entry)) (now (events .entry)) budget (now (log .entry)))) (now (answer .entry)) ⌝ }
+{
+    let device = Device::fresh();
+    let fresh = Sequencer::fresh();
+    let r = sequencer::run(image, device, fresh, events, budget, log);
+    let next = r.device;
+    state::save(next, state);
+    put_run(answer, r);
     r.outcome
+}
+
+// The fresh device's state, into a slice of 106 bytes.
+#[no_mangle]
+pub extern "C" fn runnelopal_fresh(state: &mut [u8]) -> u32
+    ensures { λ r. ⌜ (r ≡ cond (eqb (length (now (state .entry))) 106) 0 11) × (now (state .exit) ≡ saved freshDevice (now (state .entry))) ⌝ }
+{
+    let fresh = Device::fresh();
+    if state.len() != state::SIZE {
+        return device::lone::BAD_STATE;
+    }
+    state::save(fresh, state);
+    0
+}
+
+fn put_accessed(answer: &mut [u64], r: Accessed)
+    ensures { λ _. ⌜ now (answer .exit) ≡ numbered 0 (accessNumbers r) (now (answer .entry)) ⌝ }
+{
+    let outputs = r.outputs;
+    put(answer, 0, r.place as u64);
+    put(answer, 1, r.status as u64);
+    put(answer, 2, r.value as u64);
+    put_outputs(answer, 3, outputs);
+}
+
+fn put_happened(answer: &mut [u64], r: Happened)
+    ensures { λ _. ⌜ now (answer .exit) ≡ numbered 0 (eventNumbers r) (now (answer .entry)) ⌝ }
+{
+    let outputs = r.outputs;
+    put(answer, 0, r.place as u64);
+    put_outputs(answer, 1, outputs);
+}
+
+fn access_saved(state: &[u8], access: Access) -> Accessed
+    ensures { λ r. ⌜ r ≡ savedAccess (now (state .entry)) access ⌝ }
+{
+    let loaded = state::load(state);
+    let device = loaded.device;
+    if loaded.valid {
+        return device.access(access);
+    }
+    device::lone::access_refused(device::lone::BAD_STATE, device)
+}
+
+fn event_saved(state: &[u8], number: u32) -> Happened
+    ensures { λ r. ⌜ r ≡ savedEvent (now (state .entry)) number ⌝ }
+{
+    let loaded = state::load(state);
+    let device = loaded.device;
+    if loaded.valid {
+        return device.event(number);
+    }
+    device::lone::event_refused(device::lone::BAD_STATE, device)
+}
+
+// A refusal leaves the state as it was.
+fn keep(state: &mut [u8], refusal: u32, device: Device)
+    ensures { λ _. ⌜ now (state .exit) ≡ kept refusal device (now (state .entry)) ⌝ }
+{
+    if refusal == 0 {
+        state::save(device, state);
+    }
+}
+
+// One access to a saved device. Numbers: the place of a refusal, the status, the value, SCI, SMI, the monitor interrupt.
+#[no_mangle]
+pub extern "C" fn runnelopal_access(state: &mut [u8], write: bool, width: u32, port: u32, value: u32, answer: &mut [u64]) -> u32
+    ensures { λ r. ⌜ r ≡ savedAccess (now (state .entry)) (accessOf write width port value) .refusal ⌝ }
+    ensures { λ _. ⌜ now (state .exit) ≡ kept (savedAccess (now (state .entry)) (accessOf write width port value) .refusal) (savedAccess (now (state .entry)) (accessOf write width port value) .device) (now (state .entry)) ⌝ }
+    ensures { λ _. ⌜ now (answer .exit) ≡ numbered 0 (accessNumbers (savedAccess (now (state .entry)) (accessOf write width port value))) (now (answer .entry)) ⌝ }
+{
+    let r = access_saved(
+        state,
+        Access {
+            write,
+            width,
+            port,
+            value,
+        },
+    );
+    let next = r.device;
+    keep(state, r.refusal, next);
+    put_accessed(answer, r);
+    r.refusal
+}
+
+// One event. Numbers: the place of a refusal, SCI, SMI, the monitor interrupt.
+#[no_mangle]
+pub extern "C" fn runnelopal_event(state: &mut [u8], number: u32, answer: &mut [u64]) -> u32
+    ensures { λ r. ⌜ r ≡ savedEvent (now (state .entry)) number .refusal ⌝ }
+    ensures { λ _. ⌜ now (state .exit) ≡ kept (savedEvent (now (state .entry)) number .refusal) (savedEvent (now (state .entry)) number .device) (now (state .entry)) ⌝ }
+    ensures { λ _. ⌜ now (answer .exit) ≡ numbered 0 (eventNumbers (savedEvent (now (state .entry)) number)) (now (answer .entry)) ⌝ }
+{
+    let r = event_saved(state, number);
+    let next = r.device;
+    keep(state, r.refusal, next);
+    put_happened(answer, r);
+    r.refusal
 }

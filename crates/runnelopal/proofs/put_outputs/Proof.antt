@@ -1,0 +1,37 @@
+-- `runnelopal::put_outputs` meets its contract. Assumes nothing.
+use borrow.Author.Needs.{needs}
+use Rattle.runnelopal.proofs.put_outputs.Statement.{statement}
+use Rattle.runnelopal.proofs.put_outputs.Tie as tie
+
+put-flag-requires : tie.Need-put-flag-requires
+put-flag-requires c κs = search needs
+
+add-put-flag : tie.Need-add-put-flag
+add-put-flag c = search needs
+
+put-flag-requires-2 : tie.Need-put-flag-requires-2
+put-flag-requires-2 c κs = search needs
+
+add-put-flag-2 : tie.Need-add-put-flag-2
+add-put-flag-2 c = search needs
+
+put-flag-requires-3 : tie.Need-put-flag-requires-3
+put-flag-requires-3 c κs = search needs
+
+same-length : tie.Need-same-length
+same-length c = search needs
+
+returns : tie.Need-returns
+returns c = simp (c .before .before .before .before .before .before .before .before .before .before .put-flag .ensures, c .before .before .before .before .before .before .put-flag2 .ensures, c .before .before .put-flag3 .ensures)
+
+pub put-outputs-spec : {M : Type 1} → statement M
+put-outputs-spec =
+    tie.close
+    (tie.spec
+    put-flag-requires
+    add-put-flag
+    put-flag-requires-2
+    add-put-flag-2
+    put-flag-requires-3
+    same-length
+    returns)
