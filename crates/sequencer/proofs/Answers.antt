@@ -1,24 +1,22 @@
 -- The run's answer and log from what the code has at its two ends: a refusal, or the end of the words. Assumes nothing.
 use Prim.Native.Nat.{ℕ, _%_, _≤_}
 use mathlib.Core.Path.{_≡_, refl, ap, sym, _∙_}
-use mathlib.Core.Bool.{Bool, true, false, cond, not, _&&_, _||_}
+use mathlib.Core.Bool.{Bool, true, false, cond, not, _&&_}
 use mathlib.Core.List.{List}
 use native.Mathlib.Omega.{arith}
 use borrow.Author.Tests.{eq-eqb, ne-eqb, ltb-false}
-use lib.Dec.{eqb, ltb}
+use lib.Dec.{eqb}
 use lib.ListN.{length}
 use Rattle.device.specs.Device.{deviceInRange}
 use Rattle.device.specs.declared.Device.{Device}
 use Rattle.mask.proofs.Every.{and-left, and-right}
-use Rattle.script.specs.Refusals.{Refusal, refusal}
+use Rattle.script.specs.Refusals.{refusal}
 use Rattle.sequencer.specs.Holds.{EndsAs}
 use Rattle.sequencer.specs.Run.{
-  answerOf,
   asRefused,
   badImage,
   badState,
   eventsRefusal,
-  filled,
   imageRun,
   logAfter,
   runAnswer,
@@ -41,6 +39,11 @@ unfolding runAnswer logAfter
 refused image d s events budget log f e n =
     let k = ne-eqb (runRefusal image d s events .number) 0 (λ z. n (ap (λ (x : Refused). x .number) e ∙ z)) in
     (rw (e, k), rw k)
+
+pub not-refused :
+    (image : List ℕ) (d : Device) (s : Sequencer) (events : List ℕ) (f : Refused)
+    → f ≡ asRefused (runRefusal image d s events) → f .number ≡ 0 → runRefusal image d s events .number ≡ 0
+not-refused image d s events f e z = sym (ap (λ (x : Refused). x .number) e) ∙ z
 
 pub done :
     (image : List ℕ) (d : Device) (s : Sequencer) (events : List ℕ) (budget : ℕ) (log log' : List ℕ) (r : Ran)

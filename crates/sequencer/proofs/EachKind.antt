@@ -1,13 +1,12 @@
 -- What each kind of word does to a state that holds a machine. Assumes nothing.
-use Prim.Native.Nat.{ℕ, suc, _+_, _-_, _*_, _^_, _≤_, _<_}
+use Prim.Native.Nat.{ℕ, suc, _+_, _-_, _≤_, _<_}
 use mathlib.Core.Path.{_≡_, refl, ap, sym, _∙_}
-use mathlib.Core.Bool.{Bool, true, false, cond}
+use mathlib.Core.Bool.{true, false}
 use mathlib.Core.List.{List, [], _∷_, _++_, append-nil}
 use native.Mathlib.Numerals.{add-one}
 use native.Mathlib.Decide.{decLt}
 use native.Mathlib.Omega.{arith}
 use borrow.Author.Tests.{eq-eqb, ne-eqb}
-use lib.Dec.{eqb}
 use lib.ListN.{length, drop, getD, set, length-append, length-drop}
 use Rattle.access.specs.declared.Access.{Access}
 use Rattle.device.specs.Event.{happened}
@@ -18,7 +17,6 @@ use Rattle.mask.specs.Mask.{hasBit}
 use Rattle.record.proofs.Stores.{stored}
 use Rattle.record.specs.declared.Record.{Record}
 use Rattle.semantics.specs.World.{
-  World,
   after,
   answerTo,
   delayed,

@@ -1,6 +1,6 @@
 -- What a word without a fault tells, each kind what it needs. Assumes nothing.
 use Prim.Native.Nat.{ℕ, zero, suc, _≤_, _<_}
-use mathlib.Core.Path.{_≡_, refl, sym, _∙_}
+use mathlib.Core.Path.{_≡_, refl}
 use mathlib.Core.Bool.{Bool, true, false, cond, not, _&&_, _||_}
 use native.Mathlib.Omega.{arith}
 use borrow.Author.Tests.{leb-true, leb-false, eqb-true}
@@ -9,7 +9,7 @@ use Rattle.mask.proofs.Every.{and-left, and-right}
 use Rattle.record.specs.declared.Record.{Record}
 use Rattle.script.specs.Fields.{countFields}
 use Rattle.sequencer.specs.Step.{aimsBeyond, ninthCounter, noCounter, logFull, wordFault}
-use Rattle.sequencer.specs.Word.{badWord, badWordKind, goodWordFields, usesTarget, wrongWordMark}
+use Rattle.sequencer.specs.Word.{badWord, badWordKind, goodWordFields, wrongWordMark}
 
 pub record Clean (words room used logged : ℕ) (r : Record) : Type 0 where
   pub good : badWord r ≡ false

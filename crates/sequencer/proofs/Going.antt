@@ -1,19 +1,17 @@
 -- A run on its way: the state holds a machine from which the rest of the run is the whole run's end. Assumes nothing.
-use Prim.Native.Nat.{ℕ, suc, _+_, _-_, _*_, _/_, _≤_, _<_}
+use Prim.Native.Nat.{ℕ, suc, _+_, _-_, _*_, _≤_, _<_}
 use mathlib.Core.Path.{_≡_, refl, ap, sym, _∙_}
-use mathlib.Core.Bool.{Bool, true, false, cond}
-use mathlib.Core.List.{List, [], _∷_}
+use mathlib.Core.List.{List}
 use native.Mathlib.Numerals.{add-one}
 use native.Mathlib.Omega.{arith}
 use borrow.Author.Tests.{eq-eqb, ne-eqb, le-leb, lt-leb}
-use lib.Dec.{eqb, leb}
-use lib.ListN.{length, drop, length-drop}
+use lib.ListN.{length, length-drop}
 use Rattle.device.specs.declared.Device.{Device}
 use Rattle.record.specs.Record.{recordAt}
 use Rattle.record.specs.declared.Record.{Record}
 use Rattle.sequencer.specs.Holds.{Does, EndsAs, Holds, Starts, answer}
-use Rattle.sequencer.specs.Run.{Ended, answerOf, ended, filled, follow, imageRun, ran}
-use Rattle.sequencer.specs.Step.{Machine, Step, did, faultAt, faults, goesOn, halts, stepOf, taken, wordFault}
+use Rattle.sequencer.specs.Run.{Ended, ended, follow, imageRun, ran}
+use Rattle.sequencer.specs.Step.{Machine, did, faultAt, stepOf, taken, wordFault}
 use Rattle.sequencer.specs.Word.{imageWords, wordAt}
 use Rattle.sequencer.specs.declared.Ran.{Ran}
 use Rattle.sequencer.specs.declared.Sequencer.{Sequencer}
@@ -89,6 +87,16 @@ pub record Looked (image : List ℕ) (log : List ℕ) (x : Running) (word : Reco
   pub there : x .place < imageWords image
   pub word-is : word ≡ wordAt image (x .place)
   pub fault-is : fault ≡ wordFault (imageWords image) (length log) (x .used) (x .logged) word
+
+pub looked :
+    {image log : List ℕ} {x : Running} {word : Record} {fault at : ℕ} → x .place < imageWords image
+    → word ≡ recordAt image (12 * at) → at ≡ x .place
+    → fault ≡ wordFault (imageWords image) (length log) (x .used) (x .logged) word → Looked image log x word fault
+looked {image} there read at-is fault-is = record {
+  there = there;
+  word-is = read ∙ ap (wordAt image) at-is;
+  fault-is = fault-is;
+}
 
 step-is :
     {image : List ℕ} {whole : Ended} {events lent : List ℕ} {budget : ℕ} {log : List ℕ} {x : Running} {steps : ℕ}

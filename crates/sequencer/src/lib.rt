@@ -6,7 +6,7 @@ use crate::running::Running;
 use device::Device;
 ghost use mathlib.Core.Path.{_≡_};
 ghost use mathlib.Core.Bool.{true};
-ghost use Prim.Native.Nat.{_/_, _%_, _≤_, _<_};
+ghost use Prim.Native.Nat.{_≤_};
 ghost use lib.ListN.{length};
 ghost use Rattle.sequencer.specs.Sequencer.{freshSequencer, counterInRange, sequencerInRange};
 ghost use Rattle.sequencer.specs.Run.{
@@ -14,12 +14,9 @@ ghost use Rattle.sequencer.specs.Run.{
   badState,
   eventsRefusal,
   runRefusal,
-  runRefused,
   runAnswer,
   logAfter,
   imageRun,
-  answerOf,
-  filled,
   asRefused,
 };
 ghost use Rattle.sequencer.specs.Word.{imageWords};

@@ -147,11 +147,11 @@ impl Running {
     {
         let device = next_applied(self.device, events, self.taken);
         let reached = device.accessed(read_of(word));
-        let taken = taken_behind(events, self.taken);
+        let behind = taken_behind(events, self.taken);
         let next = reached.device;
         let answer = reached.answer;
         self.device = next;
-        self.taken = taken;
+        self.taken = behind;
         if answer.value & word.value == 0 {
             self.place = word.target;
             return self;

@@ -90,8 +90,9 @@ fn bad(r: Record) -> bool
 fn aims_beyond(words: u32, r: Record) -> bool
     ensures { λ b. ⌜ b ≡ aimsBeyond words r ⌝ }
 {
+    let beyond = words <= r.target;
     if uses_target(r) {
-        return words <= r.target;
+        return beyond;
     }
     false
 }

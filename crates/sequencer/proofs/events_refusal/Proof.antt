@@ -1,5 +1,4 @@
 -- `sequencer::events_refusal` meets its contract. Assumes nothing.
-use lib.Dec.{eqb}
 use borrow.Author.Needs.{scaled-fits}
 use borrow.Author.Tests.{not-true, not-false}
 use Rattle.sequencer.proofs.Events.{bad-here, bad-further, bad-none}
@@ -8,7 +7,7 @@ use borrow.Author.Needs.{needs}
 use native.Mathlib.Omega.{arith}
 use lib.ListN.{length, drop}
 use mathlib.Core.Path.{_≡_, refl, sym, _∙_}
-use Prim.Native.Nat.{ℕ, _≤_, _-_}
+use Prim.Native.Nat.{_≤_, _-_}
 use borrow.Author.Tests.{le-ltb, lt-ltb}
 use Rattle.sequencer.proofs.events_refusal.Statement.{statement}
 use Rattle.sequencer.proofs.events_refusal.Tie as tie

@@ -1,5 +1,5 @@
 -- `sequencer::run_words` meets its contract. Assumes nothing.
-use Rattle.sequencer.proofs.Going.{Going, faulted, further, halted, place-beyond, spent, starts}
+use Rattle.sequencer.proofs.Going.{Going, faulted, further, halted, looked, place-beyond, spent, starts}
 use Rattle.sequencer.specs.declared.Sequencer.{Sequencer}
 use Rattle.sequencer.specs.Run.{imageRun}
 use Rattle.sequencer.specs.Holds.{Starts}
@@ -10,7 +10,6 @@ use native.Mathlib.Omega.{arith}
 use lib.ListN.{length}
 use mathlib.Core.Path.{ap, sym, _∙_}
 use Prim.Native.Nat.{ℕ, _*_, _-_}
-use borrow.Author.Tests.{eq-eqb, le-leb, le-ltb, lt-leb, lt-ltb, ne-eqb}
 use Rattle.sequencer.proofs.run_words.Statement.{statement}
 use Rattle.sequencer.proofs.run_words.Tie as tie
 
@@ -35,10 +34,17 @@ ended-requires : tie.Need-ended-requires Inv-loop μ-loop
 ended-requires c κs = search needs
 
 same-length : tie.Need-same-length Inv-loop μ-loop
-same-length c = (c .before .before .before .before .loop .inv (c .before .before .before .before .before .before .before .before .before .args .device) (c .before .before .before .before .before .before .before .before .before .args .sequencer) (c .before .before .before .before .before .start .ensures)) .same
+same-length c =
+    let l = c .before .before .before .before in
+    let e = l .before .before .before .before .before in
+    (l .loop .inv (e .args .device) (e .args .sequencer) (l .before .start .ensures)) .same
 
 returns : tie.Need-returns Inv-loop μ-loop
-returns c = place-beyond _ (c .before .before .before .before .loop .inv (c .before .before .before .before .before .before .before .before .before .args .device) (c .before .before .before .before .before .before .before .before .before .args .sequencer) (c .before .before .before .before .before .start .ensures)) (c .before .before .before .loop-test .taken) (c .before .if1 .taken) (c .ended .ensures)
+returns c =
+    let l = c .before .before .before .before in
+    let e = l .before .before .before .before .before in
+    let g = l .loop .inv (e .args .device) (e .args .sequencer) (l .before .start .ensures) in
+    place-beyond _ g (c .before .before .before .loop-test .taken) (c .before .if1 .taken) (c .ended .ensures)
 
 index-requires : tie.Need-index-requires Inv-loop μ-loop
 index-requires c κs = search needs
@@ -56,14 +62,18 @@ ended-requires-2 : tie.Need-ended-requires-2 Inv-loop μ-loop
 ended-requires-2 c κs = search needs
 
 same-length-2 : tie.Need-same-length-2 Inv-loop μ-loop
-same-length-2 c = (c .before .before .before .before .before .before .before .before .loop .inv (c .before .before .before .before .before .before .before .before .before .before .before .before .before .args .device) (c .before .before .before .before .before .before .before .before .before .before .before .before .before .args .sequencer) (c .before .before .before .before .before .before .before .before .before .start .ensures)) .same
+same-length-2 c =
+    let l = c .before .before .before .before .before .before .before .before in
+    let e = l .before .before .before .before .before in
+    (l .loop .inv (e .args .device) (e .args .sequencer) (l .before .start .ensures)) .same
 
 returns-2 : tie.Need-returns-2 Inv-loop μ-loop
-returns-2 c = faulted _ (c .before .before .before .before .before .before .before .before .loop .inv (c .before .before .before .before .before .before .before .before .before .before .before .before .before .args .device) (c .before .before .before .before .before .before .before .before .before .before .before .before .before .args .sequencer) (c .before .before .before .before .before .before .before .before .before .start .ensures)) (c .before .before .before .before .before .before .before .loop-test .taken) (record {
-  there = c .before .before .before .before .before .if1 .left;
-  word-is = c .before .before .before .read .ensures ∙ ap (λ (k : ℕ). recordAt (c .before .before .before .before .before .before .before .before .before .before .before .before .before .args .image .now) (12 * k)) (c .before .before .before .before .index .ensures);
-  fault-is = c .before .before .fault .ensures;
-}) (c .before .if2 .taken) (c .ended2 .ensures)
+returns-2 c =
+    let f = c .before .before in
+    let l = f .before .before .before .before .before .before in
+    let e = l .before .before .before .before .before in
+    let g = l .loop .inv (e .args .device) (e .args .sequencer) (l .before .start .ensures) in
+    faulted _ g (f .before .before .before .before .before .loop-test .taken) (looked (f .before .before .before .if1 .left) (f .before .read .ensures) (f .before .before .index .ensures) (f .fault .ensures)) (c .before .if2 .taken) (c .ended2 .ensures)
 
 add-ended : tie.Need-add-ended Inv-loop μ-loop
 add-ended c = omega (arith, c .before .before .before .before .before .before .before .before .loop-test .taken, c .before .before .before .before .before .before .before .before .before .before .before .before .before .before .fits .budget)
@@ -72,20 +82,29 @@ ended-requires-3 : tie.Need-ended-requires-3 Inv-loop μ-loop
 ended-requires-3 c κs = search needs
 
 same-length-3 : tie.Need-same-length-3 Inv-loop μ-loop
-same-length-3 c = (c .before .before .before .before .before .before .before .before .before .before .loop .inv (c .before .before .before .before .before .before .before .before .before .before .before .before .before .before .before .args .device) (c .before .before .before .before .before .before .before .before .before .before .before .before .before .before .before .args .sequencer) (c .before .before .before .before .before .before .before .before .before .before .before .start .ensures)) .same
+same-length-3 c =
+    let l = c .before .before .before .before .before .before .before .before .before .before in
+    let e = l .before .before .before .before .before in
+    (l .loop .inv (e .args .device) (e .args .sequencer) (l .before .start .ensures)) .same
 
 returns-3 : tie.Need-returns-3 Inv-loop μ-loop
-returns-3 c = halted _ (c .before .before .before .before .before .before .before .before .before .before .loop .inv (c .before .before .before .before .before .before .before .before .before .before .before .before .before .before .before .args .device) (c .before .before .before .before .before .before .before .before .before .before .before .before .before .before .before .args .sequencer) (c .before .before .before .before .before .before .before .before .before .before .before .start .ensures)) (c .before .before .before .before .before .before .before .before .before .loop-test .taken) (record {
-  there = c .before .before .before .before .before .before .before .if1 .left;
-  word-is = c .before .before .before .before .before .read .ensures ∙ ap (λ (k : ℕ). recordAt (c .before .before .before .before .before .before .before .before .before .before .before .before .before .before .before .args .image .now) (12 * k)) (c .before .before .before .before .before .before .index .ensures);
-  fault-is = c .before .before .before .before .fault .ensures;
-}) (c .before .before .before .if2 .left) (c .before .if3 .taken) (c .ended3 .ensures)
+returns-3 c =
+    let f = c .before .before .before .before in
+    let l = f .before .before .before .before .before .before in
+    let e = l .before .before .before .before .before in
+    let g = l .loop .inv (e .args .device) (e .args .sequencer) (l .before .start .ensures) in
+    halted _ g (f .before .before .before .before .before .loop-test .taken) (looked (f .before .before .before .if1 .left) (f .before .read .ensures) (f .before .before .index .ensures) (f .fault .ensures)) (c .before .before .before .if2 .left) (c .before .if3 .taken) (c .ended3 .ensures)
 
 step-requires : tie.Need-step-requires Inv-loop μ-loop
-step-requires c κs = (
-  (omega (arith, c .before .before .before .before .before .before .before .if1 .left, c .before .before .before .before .before .before .before .before .before .before .before .before .before .before .before .pre .0), (c .before .before .before .before .before .before .before .before .before .before .loop .inv (c .before .before .before .before .before .before .before .before .before .before .before .before .before .before .before .args .device) (c .before .before .before .before .before .before .before .before .before .before .before .before .before .before .before .args .sequencer) (c .before .before .before .before .before .before .before .before .before .before .before .start .ensures)) .holds .inside, omega (arith, (c .before .before .before .before .before .before .before .before .before .before .loop .inv (c .before .before .before .before .before .before .before .before .before .before .before .before .before .before .before .args .device) (c .before .before .before .before .before .before .before .before .before .before .before .before .before .before .before .args .sequencer) (c .before .before .before .before .before .before .before .before .before .before .before .start .ensures)) .holds .used, (c .before .before .before .before .before .before .before .before .before .before .loop .inv (c .before .before .before .before .before .before .before .before .before .before .before .before .before .before .before .args .device) (c .before .before .before .before .before .before .before .before .before .before .before .before .before .before .before .args .sequencer) (c .before .before .before .before .before .before .before .before .before .before .before .start .ensures)) .holds .few)),
-  (sym (c .before .before .before .before .fault .ensures) ∙ c .before .before .before .if2 .left, c .before .if3 .left),
-)
+step-requires c κs =
+    let z = sym (c .before .before .before .before .fault .ensures) ∙ c .before .before .before .if2 .left in
+    let f = c .before .before .before .before in
+    let l = f .before .before .before .before .before .before in
+    let e = l .before .before .before .before .before in
+    let g = l .loop .inv (e .args .device) (e .args .sequencer) (l .before .start .ensures) in (
+      (omega (arith, f .before .before .before .if1 .left, e .pre .0), g .holds .inside, omega (arith, g .holds .used, g .holds .few)),
+      (z, c .before .if3 .left),
+    )
 
 add-steps : tie.Need-add-steps Inv-loop μ-loop
 add-steps c = omega (arith, c .before .before .before .before .before .before .before .before .before .before .before .before .loop-test .taken, c .before .before .before .before .before .before .before .before .before .before .before .before .before .before .before .before .before .before .fits .budget)
@@ -95,20 +114,24 @@ loop-less c = omega arith
 
 loop-again : tie.Need-loop-again Inv-loop μ-loop
 loop-again c = λ d s h.
-    further _ _ (c .before .before .before .before .before .before .before .before .before .before .before .before .before .loop .inv d s h) (c .before .before .before .before .before .before .before .before .before .before .before .before .loop-test .taken) (record {
-      there = c .before .before .before .before .before .before .before .before .before .before .if1 .left;
-      word-is = c .before .before .before .before .before .before .before .before .read .ensures ∙ ap (λ (k : ℕ). recordAt (c .before .before .before .before .before .before .before .before .before .before .before .before .before .before .before .before .before .before .args .image .now) (12 * k)) (c .before .before .before .before .before .before .before .before .before .index .ensures);
-      fault-is = c .before .before .before .before .before .before .before .fault .ensures;
-    }) (c .before .before .before .before .before .before .if2 .left) (c .before .before .before .before .if3 .left) (c .before .before .step .ensures) (c .before .before .step .kept .1 .1 .1 .1 .0)
+    let f = c .before .before .before .before .before .before .before in
+    further _ _ (f .before .before .before .before .before .before .loop .inv d s h) (f .before .before .before .before .before .loop-test .taken) (looked (f .before .before .before .if1 .left) (f .before .read .ensures) (f .before .before .index .ensures) (f .fault .ensures)) (c .before .before .before .before .before .before .if2 .left) (c .before .before .before .before .if3 .left) (c .before .before .step .ensures) (c .before .before .step .kept .1 .1 .1 .1 .0)
 
 ended-requires-4 : tie.Need-ended-requires-4 Inv-loop μ-loop
 ended-requires-4 c κs = search needs
 
 same-length-4 : tie.Need-same-length-4 Inv-loop μ-loop
-same-length-4 c = (c .before .before .loop .inv (c .before .before .before .before .before .before .before .args .device) (c .before .before .before .before .before .before .before .args .sequencer) (c .before .before .before .start .ensures)) .same
+same-length-4 c =
+    let l = c .before .before in
+    let e = l .before .before .before .before .before in
+    (l .loop .inv (e .args .device) (e .args .sequencer) (l .before .start .ensures)) .same
 
 returns-4 : tie.Need-returns-4 Inv-loop μ-loop
-returns-4 c = spent _ (c .before .before .loop .inv (c .before .before .before .before .before .before .before .args .device) (c .before .before .before .before .before .before .before .args .sequencer) (c .before .before .before .start .ensures)) (c .before .loop-test .left) (c .ended4 .ensures)
+returns-4 c =
+    let l = c .before .before in
+    let e = l .before .before .before .before .before in
+    let g = l .loop .inv (e .args .device) (e .args .sequencer) (l .before .start .ensures) in
+    spent _ g (c .before .loop-test .left) (c .ended4 .ensures)
 
 pub run-words-spec : {M : Type 1} → statement M
 run-words-spec =

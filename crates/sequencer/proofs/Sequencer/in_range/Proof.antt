@@ -6,10 +6,9 @@ use Rattle.mask.proofs.Every.{all-false, all-more}
 use borrow.Author.Needs.{needs}
 use native.Mathlib.Omega.{arith}
 use lib.ListN.{getD}
-use mathlib.Core.Bool.{true, false}
+use mathlib.Core.Bool.{true}
 use mathlib.Core.Path.{_≡_, refl, sym, _∙_}
-use Prim.Native.Nat.{ℕ, _≤_, _-_}
-use borrow.Author.Tests.{le-ltb, lt-ltb}
+use Prim.Native.Nat.{_≤_, _-_}
 use Rattle.sequencer.proofs.Sequencer.in_range.Statement.{statement}
 use Rattle.sequencer.proofs.Sequencer.in_range.Tie as tie
 
@@ -38,8 +37,10 @@ counter-in-range-requires c κs = search needs
 returns-2 : tie.Need-returns-2 Inv-loop μ-loop
 unfolding sequencerInRange
 returns-2 c =
-    rw (le-leb _ _ (c .before .before .before .before .if1 .left))
-    (sym (all-false 8 (λ j. counterInRange (c .before .before .before .before .before .before .args .self .used) j (getD (c .before .before .before .before .before .before .args .self .counters) j 0)) (c .before .before .before .loop .k) (omega arith) (sym (c .before .counter-in-range .ensures) ∙ not-true _ (c .if2 .taken))))
+    let l = c .before .before .before in
+    let e = l .before .before .before .args in
+    rw (le-leb _ _ (l .before .if1 .left))
+    (sym (all-false 8 (λ j. counterInRange (e .self .used) j (getD (e .self .counters) j 0)) (l .loop .k) (omega arith) (sym (c .before .counter-in-range .ensures) ∙ not-true _ (c .if2 .taken))))
 
 add-k : tie.Need-add-k Inv-loop μ-loop
 add-k c = omega arith
@@ -48,10 +49,12 @@ loop-less : tie.Need-loop-less Inv-loop μ-loop
 loop-less c = omega arith
 
 loop-again : tie.Need-loop-again Inv-loop μ-loop
-loop-again c = (
-  omega arith,
-  all-more (c .before .before .before .loop .k) (λ j. counterInRange (c .before .before .before .before .before .before .args .self .used) j (getD (c .before .before .before .before .before .before .args .self .counters) j 0)) (c .before .before .before .loop .inv .1) (sym (c .before .counter-in-range .ensures) ∙ not-false _ (c .if2 .left)),
-)
+loop-again c =
+    let l = c .before .before .before in
+    let e = l .before .before .before .args in (
+      omega arith,
+      all-more (l .loop .k) (λ j. counterInRange (e .self .used) j (getD (e .self .counters) j 0)) (l .loop .inv .1) (sym (c .before .counter-in-range .ensures) ∙ not-false _ (c .if2 .left)),
+    )
 
 returns-3 : tie.Need-returns-3 Inv-loop μ-loop
 unfolding sequencerInRange

@@ -1,7 +1,6 @@
 -- `sequencer::running::next_applied` meets its contract. Assumes nothing.
 use mathlib.Core.Path.{sym, _∙_}
 use Rattle.sequencer.proofs.Events.{next-there, next-none}
-use borrow.Author.Tests.{le-ltb, lt-ltb}
 use borrow.Author.Needs.{needs}
 use Rattle.sequencer.proofs.running.next_applied.Statement.{statement}
 use Rattle.sequencer.proofs.running.next_applied.Tie as tie

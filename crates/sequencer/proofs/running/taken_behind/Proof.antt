@@ -1,7 +1,6 @@
 -- `sequencer::running::taken_behind` meets its contract. Assumes nothing.
 use native.Mathlib.Omega.{arith}
 use Rattle.sequencer.proofs.Events.{behind-there, behind-none}
-use borrow.Author.Tests.{le-ltb, lt-ltb}
 use borrow.Author.Needs.{needs}
 use Rattle.sequencer.proofs.running.taken_behind.Statement.{statement}
 use Rattle.sequencer.proofs.running.taken_behind.Tie as tie

@@ -7,7 +7,7 @@ uses-target-requires : tie.Need-uses-target-requires
 uses-target-requires c κs = search needs
 
 returns : tie.Need-returns
-returns c = simp (← (c .before .before .uses-target .ensures), c .before .if1 .taken)
+returns c = simp (← (c .before .uses-target .ensures), c .if1 .taken)
 
 returns-2 : tie.Need-returns-2
 returns-2 c = simp (← (c .before .uses-target .ensures), c .if1 .left)

@@ -18,7 +18,8 @@ add-self c = search needs
 
 returns : tie.Need-returns
 returns c =
-    delayed-by (c .before .before .before .before .args .word) (c .before .before .before .before .args .self) (c .before .happened .result) (c .before .before .before .before .pre .1) (c .before .happened .ensures)
+    let e = c .before .before .before .before in
+    delayed-by (e .args .word) (e .args .self) (c .before .happened .result) (e .pre .1) (c .before .happened .ensures)
 
 pub delay-spec : {M : Type 1} → statement M
 delay-spec = tie.close (tie.spec mul-happened add-happened happened-requires add-self returns)

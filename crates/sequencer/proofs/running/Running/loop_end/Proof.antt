@@ -1,6 +1,5 @@
 -- `sequencer::running::Running::loop_end` meets its contract. Assumes nothing.
 use Rattle.sequencer.proofs.EachKind.{loop-over, loop-again}
-use borrow.Author.Tests.{le-leb, lt-leb}
 use borrow.Author.Needs.{needs}
 use Rattle.sequencer.proofs.running.Running.loop_end.Statement.{statement}
 use Rattle.sequencer.proofs.running.Running.loop_end.Tie as tie
@@ -24,7 +23,9 @@ add-self : tie.Need-add-self
 add-self c = search needs
 
 returns : tie.Need-returns
-returns c = loop-over (c .before .before .args .word) (c .before .before .args .t1) (c .before .before .pre .1) (c .before .before .pre .2) (c .if1 .taken)
+returns c =
+    let e = c .before .before in
+    loop-over (e .args .word) (e .args .t1) (e .pre .1) (e .pre .2) (c .if1 .taken)
 
 sub-self : tie.Need-sub-self
 sub-self c = search needs
@@ -36,7 +37,9 @@ element-write-self-2 : tie.Need-element-write-self-2
 element-write-self-2 c = search needs
 
 returns-2 : tie.Need-returns-2
-returns-2 c = loop-again (c .before .before .args .word) (c .before .before .args .t1) (c .before .before .pre .1) (c .before .before .pre .2) (c .if1 .left)
+returns-2 c =
+    let e = c .before .before in
+    loop-again (e .args .word) (e .args .t1) (e .pre .1) (e .pre .2) (c .if1 .left)
 
 pub loop-end-spec : {M : Type 1} → statement M
 loop-end-spec =

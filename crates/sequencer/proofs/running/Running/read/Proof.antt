@@ -21,13 +21,17 @@ taken-behind-requires : tie.Need-taken-behind-requires
 taken-behind-requires c κs = search needs
 
 mul-log : tie.Need-mul-log
-mul-log c = scaled-fits _ _ 4 (c .before .before .before .before .before .before .before .before .pre .3) (c .before .before .before .before .before .before .before .before .good .1 .1 .1 .0 .1)
+mul-log c =
+    let e = c .before .before .before .before .before .before .before .before in
+    scaled-fits _ _ 4 (e .pre .3) (e .good .1 .1 .1 .0 .1)
 
 slice-write-log : tie.Need-slice-write-log
 slice-write-log c = search needs
 
 add-self : tie.Need-add-self
-add-self c = omega (arith, c .before .before .before .before .before .before .before .before .pre .3, c .before .before .before .before .before .before .before .before .good .1 .1 .1 .0 .0)
+add-self c =
+    let e = c .before .before .before .before .before .before .before .before in
+    omega (arith, e .pre .3, e .good .1 .1 .1 .0 .0)
 
 add-self-2 : tie.Need-add-self-2
 add-self-2 c = search needs
@@ -37,14 +41,18 @@ same-length c = search needs
 
 returns : tie.Need-returns
 returns c =
-    read-out (c .before .before .before .before .before .before .before .before .before .args .word) (c .before .before .before .before .before .before .before .before .before .args .self) (c .before .before .before .before .before .before .before .before .before .args .events .now) (c .before .before .before .before .before .before .before .before .before .args .log .now) (c .before .before .before .before .accessed .result) (c .before .before .before .taken-behind .result)
-    (c .before .before .before .before .before .before .before .before .before .pre .2) (record {
-      arrived = c .before .before .before .before .before .before .next-applied .result;
-      applied = c .before .before .before .before .before .before .next-applied .ensures;
-      answered = c .before .before .before .before .accessed .ensures ∙ ap (accessed (c .before .before .before .before .before .before .next-applied .result)) (c .before .before .before .before .before .read-of .ensures);
-      inside = c .before .before .before .taken-behind .ensures .0;
-      left = c .before .before .before .taken-behind .ensures .1;
-    }) (c .before .before .before .before .before .before .before .before .before .pre .3)
+    let t = c .before .before .before in
+    let a = t .before in
+    let n = a .before .before in
+    let e = n .before .before .before in
+    read-out (e .args .word) (e .args .self) (e .args .events .now) (e .args .log .now) (a .accessed .result) (t .taken-behind .result) (e .pre .2)
+    (record {
+      arrived = n .next-applied .result;
+      applied = n .next-applied .ensures;
+      answered = a .accessed .ensures ∙ ap (accessed (n .next-applied .result)) (a .before .read-of .ensures);
+      inside = t .taken-behind .ensures .0;
+      left = t .taken-behind .ensures .1;
+    }) (e .pre .3)
 
 pub read-spec : {M : Type 1} → statement M
 read-spec =

@@ -1,12 +1,9 @@
 -- `sequencer::running::Running::test` meets its contract. Assumes nothing.
-use borrow.Author.Tests.{ne-eqb}
-use Rattle.sequencer.proofs.EachKind.{test-passed}
+use Rattle.sequencer.proofs.EachKind.{test-failed, test-passed}
 use mathlib.Core.Path.{ap, _∙_}
 use Rattle.device.specs.Reach.{accessed}
-use lib.Dec.{eqb}
 use mathlib.Core.Bool.{not}
-use Rattle.sequencer.proofs.EachKind.{test-failed}
-use borrow.Author.Tests.{eq-eqb}
+use borrow.Author.Tests.{eq-eqb, ne-eqb}
 use borrow.Author.Needs.{needs}
 use Rattle.sequencer.proofs.running.Running.test.Statement.{statement}
 use Rattle.sequencer.proofs.running.Running.test.Tie as tie
@@ -25,13 +22,17 @@ taken-behind-requires c κs = search needs
 
 returns : tie.Need-returns
 returns c =
-    test-failed (c .before .before .before .before .before .before .before .before .before .before .args .word) (c .before .before .before .before .before .before .before .before .before .before .args .self) (c .before .before .before .before .before .before .before .before .before .before .args .events .now) (c .before .before .before .before .before .before .accessed .result) (c .before .before .before .before .before .taken-behind .result)
-    (c .before .before .before .before .before .before .before .before .before .before .pre .2) (record {
-      arrived = c .before .before .before .before .before .before .before .before .next-applied .result;
-      applied = c .before .before .before .before .before .before .before .before .next-applied .ensures;
-      answered = c .before .before .before .before .before .before .accessed .ensures ∙ ap (accessed (c .before .before .before .before .before .before .before .before .next-applied .result)) (c .before .before .before .before .before .before .before .read-of .ensures);
-      inside = c .before .before .before .before .before .taken-behind .ensures .0;
-      left = c .before .before .before .before .before .taken-behind .ensures .1;
+    let t = c .before .before .before .before .before in
+    let a = t .before in
+    let n = a .before .before in
+    let e = n .before .before in
+    test-failed (e .args .word) (e .args .self) (e .args .events .now) (a .accessed .result) (t .taken-behind .result) (e .pre .2)
+    (record {
+      arrived = n .next-applied .result;
+      applied = n .next-applied .ensures;
+      answered = a .accessed .ensures ∙ ap (accessed (n .next-applied .result)) (a .before .read-of .ensures);
+      inside = t .taken-behind .ensures .0;
+      left = t .taken-behind .ensures .1;
     }) (ap not (eq-eqb _ _ (c .if1 .taken)))
 
 add-self : tie.Need-add-self
@@ -39,13 +40,17 @@ add-self c = search needs
 
 returns-2 : tie.Need-returns-2
 returns-2 c =
-    test-passed (c .before .before .before .before .before .before .before .before .before .before .before .args .word) (c .before .before .before .before .before .before .before .before .before .before .before .args .self) (c .before .before .before .before .before .before .before .before .before .before .before .args .events .now) (c .before .before .before .before .before .before .before .accessed .result) (c .before .before .before .before .before .before .taken-behind .result)
-    (c .before .before .before .before .before .before .before .before .before .before .before .pre .2) (record {
-      arrived = c .before .before .before .before .before .before .before .before .before .next-applied .result;
-      applied = c .before .before .before .before .before .before .before .before .before .next-applied .ensures;
-      answered = c .before .before .before .before .before .before .before .accessed .ensures ∙ ap (accessed (c .before .before .before .before .before .before .before .before .before .next-applied .result)) (c .before .before .before .before .before .before .before .before .read-of .ensures);
-      inside = c .before .before .before .before .before .before .taken-behind .ensures .0;
-      left = c .before .before .before .before .before .before .taken-behind .ensures .1;
+    let t = c .before .before .before .before .before .before in
+    let a = t .before in
+    let n = a .before .before in
+    let e = n .before .before in
+    test-passed (e .args .word) (e .args .self) (e .args .events .now) (a .accessed .result) (t .taken-behind .result) (e .pre .2)
+    (record {
+      arrived = n .next-applied .result;
+      applied = n .next-applied .ensures;
+      answered = a .accessed .ensures ∙ ap (accessed (n .next-applied .result)) (a .before .read-of .ensures);
+      inside = t .taken-behind .ensures .0;
+      left = t .taken-behind .ensures .1;
     }) (ap not (ne-eqb _ _ (c .before .if1 .left)))
 
 pub test-spec : {M : Type 1} → statement M

@@ -23,13 +23,17 @@ add-self c = search needs
 
 returns : tie.Need-returns
 returns c =
-    wrote (c .before .before .before .before .before .before .before .args .word) (c .before .before .before .before .before .before .before .args .self) (c .before .before .before .before .before .before .before .args .events .now) (c .before .before .before .accessed .result) (c .before .before .taken-behind .result) (c .before .before .before .before .before .before .before .pre .2)
+    let t = c .before .before in
+    let a = t .before in
+    let n = a .before .before in
+    let e = n .before .before in
+    wrote (e .args .word) (e .args .self) (e .args .events .now) (a .accessed .result) (t .taken-behind .result) (e .pre .2)
     (record {
-      arrived = c .before .before .before .before .before .next-applied .result;
-      applied = c .before .before .before .before .before .next-applied .ensures;
-      answered = c .before .before .before .accessed .ensures ∙ ap (accessed (c .before .before .before .before .before .next-applied .result)) (c .before .before .before .before .write-of .ensures);
-      inside = c .before .before .taken-behind .ensures .0;
-      left = c .before .before .taken-behind .ensures .1;
+      arrived = n .next-applied .result;
+      applied = n .next-applied .ensures;
+      answered = a .accessed .ensures ∙ ap (accessed (n .next-applied .result)) (a .before .write-of .ensures);
+      inside = t .taken-behind .ensures .0;
+      left = t .taken-behind .ensures .1;
     })
 
 pub write-spec : {M : Type 1} → statement M
