@@ -1,7 +1,10 @@
 // The lines that `replay` prints, each written whole.
+use crate::held::Held;
 use device::Device;
 use device::Outputs;
 use libc::STDOUT_FILENO;
+use sequencer::Ran;
+use sequencer::Sequencer;
 
 fn write(line: &[u8], end: usize) {
     if end <= line.len() {
@@ -37,6 +40,10 @@ pub fn fresh() {
 
 pub fn loaded() {
     io::write_all(STDOUT_FILENO, b"LOADED\n");
+}
+
+pub fn set() {
+    io::write_all(STDOUT_FILENO, b"SET\n");
 }
 
 pub fn refused(number: u32, place: u32) {
@@ -82,11 +89,15 @@ fn put_bytes(line: &mut [u8], at: usize, bytes: &[u8], size: usize) -> usize {
     next
 }
 
+fn put_state(line: &mut [u8], at: usize, device: Device) -> usize {
+    let bytes = state::bytes_of(device);
+    put_bytes(line, at, &bytes, state::SIZE)
+}
+
 pub fn state(device: Device) {
     let mut line = [0u8; 256];
-    let bytes = state::bytes_of(device);
     let a = digits::put_text(&mut line, 0, b"STATE ");
-    let b = put_bytes(&mut line, a, &bytes, state::SIZE);
+    let b = put_state(&mut line, a, device);
     print(&mut line, b);
 }
 
@@ -122,5 +133,83 @@ pub fn compiled(refusal: u32, place: u32, words: u32, image: &[u8], length: usiz
     let mut line = [0u8; 33000];
     let a = put_compiled(&mut line, refusal, place, words);
     let b = put_buffer(&mut line, a, image, length);
+    print(&mut line, b);
+}
+
+// ---- runs
+
+// One space and a decimal number.
+fn put_next(line: &mut [u8], at: usize, number: u32) -> usize {
+    let next = digits::put(line, at, b' ');
+    digits::put_decimal(line, next, number)
+}
+
+fn short(number: usize) -> u32 {
+    (number % 0x1_0000_0000) as u32
+}
+
+fn put_counters(line: &mut [u8], at: usize, counters: &[u32; 8]) -> usize {
+    let mut next = at;
+    for k in 0..8 {
+        next = put_next(line, next, counters[k]);
+    }
+    next
+}
+
+fn put_sequencer(line: &mut [u8], at: usize, sequencer: Sequencer) -> usize {
+    let counters = sequencer.counters;
+    let a = put_next(line, at, sequencer.place);
+    let b = put_next(line, a, short(sequencer.used));
+    put_counters(line, b, &counters)
+}
+
+fn put_values(line: &mut [u8], at: usize, values: &[u32], size: usize) -> usize {
+    let mut next = at;
+    for k in 0..values.len() {
+        if size <= k {
+            return next;
+        }
+        next = digits::put_hex(line, next, values[k]);
+    }
+    next
+}
+
+fn put_log(line: &mut [u8], at: usize, log: &[u32], size: usize) -> usize {
+    if size == 0 {
+        return at;
+    }
+    let next = digits::put(line, at, b' ');
+    put_values(line, next, log, size)
+}
+
+// What is held after a run, and the first `size` values of the log.
+fn put_held(line: &mut [u8], at: usize, held: Held, log: &[u32], size: usize) -> usize {
+    let device = held.device;
+    let sequencer = held.sequencer;
+    let a = put_sequencer(line, at, sequencer);
+    let b = digits::put(line, a, b' ');
+    let c = put_state(line, b, device);
+    put_log(line, c, log, size)
+}
+
+fn put_ended(line: &mut [u8], ran: Ran) -> usize {
+    let a = digits::put_text(line, 0, b"ENDED");
+    let b = put_next(line, a, ran.outcome);
+    let c = put_next(line, b, ran.steps);
+    let d = put_next(line, c, short(ran.taken));
+    put_next(line, d, short(ran.logged))
+}
+
+pub fn run_ended(ran: Ran, held: Held, log: &[u32], size: usize) {
+    let mut line = [0u8; 17000];
+    let a = put_ended(&mut line, ran);
+    let b = put_held(&mut line, a, held, log, size);
+    print(&mut line, b);
+}
+
+pub fn run_refused(number: u32, place: u32, held: Held, log: &[u32], size: usize) {
+    let mut line = [0u8; 17000];
+    let a = put_refusal(&mut line, number, place);
+    let b = put_held(&mut line, a, held, log, size);
     print(&mut line, b);
 }

@@ -1,5 +1,7 @@
-// One command: read, done on the device, answered. A line that is no command leaves the device as it is.
+// One command: read, done on what is held, answered. A line that is no command leaves all as it is.
 use crate::answer;
+use crate::held::Held;
+use crate::runs;
 use crate::scripts;
 use access::Access;
 use device::Device;
@@ -132,9 +134,7 @@ fn letter(line: &[u8]) -> u8 {
     0
 }
 
-pub fn run(device: Device, line: &[u8]) -> Device {
-    let kind = letter(line);
-    let alone = digits::ends(line, 1);
+fn on_device(device: Device, line: &[u8], kind: u8) -> Device {
     if kind == b'R' {
         return read(device, line);
     }
@@ -147,11 +147,7 @@ pub fn run(device: Device, line: &[u8]) -> Device {
     if kind == b'L' {
         return load(device, line);
     }
-    if kind == b'C' {
-        scripts::run(line);
-        return device;
-    }
-    if !alone {
+    if !digits::ends(line, 1) {
         return unread(device);
     }
     if kind == b'S' {
@@ -164,4 +160,24 @@ pub fn run(device: Device, line: &[u8]) -> Device {
         return fresh();
     }
     unread(device)
+}
+
+pub fn run(held: Held, line: &[u8]) -> Held {
+    let kind = letter(line);
+    if kind == b'C' {
+        scripts::run(line);
+        return held;
+    }
+    if kind == b'Q' {
+        return runs::set_sequencer(held, line);
+    }
+    if kind == b'X' {
+        return runs::run(held, line, false);
+    }
+    if kind == b'T' {
+        return runs::run(held, line, true);
+    }
+    let device = held.device;
+    let next = on_device(device, line, kind);
+    held.with_device(next)
 }

@@ -1,22 +1,6 @@
 // The command that compiles a script.
 use crate::answer;
-
-// The most bytes that a script and an image buffer may have here.
-const MOST: usize = 16384;
-
-// The bytes of the script, from a place of the line on; false where the line has no such bytes.
-fn script_bytes(line: &[u8], at: usize, count: usize, script: &mut [u8; 16384]) -> bool {
-    for k in 0..16384 {
-        if k < count {
-            let b = digits::byte(line, digits::after(at, 2 * k));
-            if 256 <= b {
-                return false;
-            }
-            script[k] = (b % 256) as u8;
-        }
-    }
-    true
-}
+use crate::strings;
 
 // The buffer as it is lent.
 fn lend(image: &mut [u8; 16384]) {
@@ -25,40 +9,30 @@ fn lend(image: &mut [u8; 16384]) {
     }
 }
 
+// A script or a buffer that there is no room for is no command.
 fn compile_into(script: &[u8], count: usize, image: &mut [u8], length: usize) {
-    if count <= script.len() {
-        if length <= image.len() {
-            let r = compiler::compile(&script[..count], &mut image[..length]);
-            answer::compiled(r.refusal, r.place, r.words, image, length);
-        }
-    }
-}
-
-fn compile(line: &[u8], at: usize, count: usize, length: usize) {
-    let mut script = [0u8; 16384];
-    let mut image = [0u8; 16384];
-    if !script_bytes(line, at, count, &mut script) {
+    if script.len() < count {
         answer::unread();
         return;
     }
-    lend(&mut image);
-    compile_all(&script, count, &mut image, length);
+    if image.len() < length {
+        answer::unread();
+        return;
+    }
+    let r = compiler::compile(&script[..count], &mut image[..length]);
+    answer::compiled(r.refusal, r.place, r.words, image, length);
 }
 
 fn compile_all(script: &[u8; 16384], count: usize, image: &mut [u8; 16384], length: usize) {
     compile_into(script, count, image, length);
 }
 
-// How many bytes a byte string has that fills the line from a place on; MOST + 1 where it is none, or too long.
-fn bytes_from(line: &[u8], at: usize) -> usize {
-    if line.len() <= at {
-        return MOST + 1;
-    }
-    let size = line.len() - at;
-    if size % 2 != 0 {
-        return MOST + 1;
-    }
-    size / 2
+fn compile(line: &[u8], at: usize, count: usize, length: usize) {
+    let mut script = [0u8; 16384];
+    let mut image = [0u8; 16384];
+    strings::copy_bytes(line, at, count, &mut script);
+    lend(&mut image);
+    compile_all(&script, count, &mut image, length);
 }
 
 // C length, C length script
@@ -68,24 +42,19 @@ pub fn run(line: &[u8]) {
         answer::unread();
         return;
     }
-    if 16384 < length.value {
-        answer::unread();
-        return;
-    }
     let size = length.value as usize;
     if digits::ends(line, length.next) {
         compile(line, 0, 0, size);
         return;
     }
-    let at = digits::after(length.next, 1);
-    let count = bytes_from(line, at);
-    if !digits::is_space(line, length.next) {
+    let script = strings::next_string(line, length.next);
+    if !script.ok {
         answer::unread();
         return;
     }
-    if MOST < count {
+    if !digits::ends(line, script.next) {
         answer::unread();
         return;
     }
-    compile(line, at, count, size);
+    compile(line, script.at, script.count, size);
 }

@@ -1,0 +1,69 @@
+-- `replay::runs::run_image` is safe and ends. Assumes nothing.
+-- Each part is lent only behind the test that it lies within its buffer.
+use mathlib.Core.Path.{sym}
+use native.Mathlib.Omega.{arith}
+use lib.Seq.{length-take-le}
+use borrow.Author.Needs.{needs}
+use Rattle.replay.proofs.runs.run_image.Statement.{statement}
+use Rattle.replay.proofs.runs.run_image.Tie as tie
+
+unread-requires : tie.Need-unread-requires
+unread-requires c κs = search needs
+
+returns : tie.Need-returns
+returns c = search needs
+
+unread-requires-2 : tie.Need-unread-requires-2
+unread-requires-2 c κs = search needs
+
+returns-2 : tie.Need-returns-2
+returns-2 c = search needs
+
+unread-requires-3 : tie.Need-unread-requires-3
+unread-requires-3 c κs = search needs
+
+returns-3 : tie.Need-returns-3
+returns-3 c = search needs
+
+slice-aggregate-run : tie.Need-slice-aggregate-run
+slice-aggregate-run c = sym (length-take-le _ _ (omega arith))
+
+slice-aggregate-run-2 : tie.Need-slice-aggregate-run-2
+slice-aggregate-run-2 c = sym (length-take-le _ _ (omega arith))
+
+slice-relend-prefix-run : tie.Need-slice-relend-prefix-run
+slice-relend-prefix-run c = search needs
+
+slice-aggregate-run-3 : tie.Need-slice-aggregate-run-3
+slice-aggregate-run-3 c = sym (length-take-le _ _ (omega arith))
+
+run-requires : tie.Need-run-requires
+run-requires c κs = search needs
+
+answered-requires : tie.Need-answered-requires
+answered-requires c κs = search needs
+
+same-length : tie.Need-same-length
+same-length c = search needs
+
+returns-4 : tie.Need-returns-4
+returns-4 c = search needs
+
+pub run-image-spec : {M : Type 1} → statement M
+run-image-spec =
+    tie.close
+    (tie.spec
+    unread-requires
+    returns
+    unread-requires-2
+    returns-2
+    unread-requires-3
+    returns-3
+    slice-aggregate-run
+    slice-aggregate-run-2
+    slice-relend-prefix-run
+    slice-aggregate-run-3
+    run-requires
+    answered-requires
+    same-length
+    returns-4)

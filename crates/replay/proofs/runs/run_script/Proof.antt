@@ -1,0 +1,69 @@
+-- `replay::runs::run_script` is safe and ends. Assumes nothing.
+-- Each part is lent only behind the test that it lies within its buffer.
+use mathlib.Core.Path.{sym}
+use native.Mathlib.Omega.{arith}
+use lib.Seq.{length-take-le}
+use borrow.Author.Needs.{needs}
+use Rattle.replay.proofs.runs.run_script.Statement.{statement}
+use Rattle.replay.proofs.runs.run_script.Tie as tie
+
+unread-requires : tie.Need-unread-requires
+unread-requires c κs = search needs
+
+returns : tie.Need-returns
+returns c = search needs
+
+unread-requires-2 : tie.Need-unread-requires-2
+unread-requires-2 c κs = search needs
+
+returns-2 : tie.Need-returns-2
+returns-2 c = search needs
+
+unread-requires-3 : tie.Need-unread-requires-3
+unread-requires-3 c κs = search needs
+
+returns-3 : tie.Need-returns-3
+returns-3 c = search needs
+
+slice-aggregate-compile-and-run : tie.Need-slice-aggregate-compile-and-run
+slice-aggregate-compile-and-run c = sym (length-take-le _ _ (omega arith))
+
+slice-aggregate-compile-and-run-2 : tie.Need-slice-aggregate-compile-and-run-2
+slice-aggregate-compile-and-run-2 c = sym (length-take-le _ _ (omega arith))
+
+slice-relend-prefix-compile-and-run : tie.Need-slice-relend-prefix-compile-and-run
+slice-relend-prefix-compile-and-run c = search needs
+
+slice-aggregate-compile-and-run-3 : tie.Need-slice-aggregate-compile-and-run-3
+slice-aggregate-compile-and-run-3 c = sym (length-take-le _ _ (omega arith))
+
+compile-and-run-requires : tie.Need-compile-and-run-requires
+compile-and-run-requires c κs = search needs
+
+answered-requires : tie.Need-answered-requires
+answered-requires c κs = search needs
+
+same-length : tie.Need-same-length
+same-length c = search needs
+
+returns-4 : tie.Need-returns-4
+returns-4 c = search needs
+
+pub run-script-spec : {M : Type 1} → statement M
+run-script-spec =
+    tie.close
+    (tie.spec
+    unread-requires
+    returns
+    unread-requires-2
+    returns-2
+    unread-requires-3
+    returns-3
+    slice-aggregate-compile-and-run
+    slice-aggregate-compile-and-run-2
+    slice-relend-prefix-compile-and-run
+    slice-aggregate-compile-and-run-3
+    compile-and-run-requires
+    answered-requires
+    same-length
+    returns-4)
