@@ -85,7 +85,14 @@ fn put_run(answer: &mut [u64], r: Ran)
 // Runs an image on a fresh device from a fresh sequencer, and leaves the device's state in a lent slice of 106 bytes. Numbers:
 // the place of a refusal, the steps, the events taken, the values logged, the place of the sequencer.
 #[no_mangle]
-pub extern "C" fn runnelopal_run(image: &[u8], events: &[u32], budget: u32, log: &mut [u32], state: &mut [u8], answer: &mut [u64]) -> u32
+pub extern "C" fn runnelopal_run(
+    image: &[u8],
+    events: &[u32],
+    budget: u32,
+    log: &mut [u32],
+    state: &mut [u8],
+    answer: &mut [u64],
+) -> u32
     ensures { λ r. ⌜ (r ≡ freshRun (now (image .entry)) (now (events .entry)) budget (now (log .entry)) .outcome) × (now (log .exit) ≡ logAfter (now (image .entry)) freshDevice freshSequencer (now (events .entry)) budget (now (log .entry))) ⌝ }
     ensures { λ _. ⌜ now (state .exit) ≡ saved (freshRun (now (image .entry)) (now (events .entry)) budget (now (log .entry)) .device) (now (state .entry)) ⌝ }
     ensures { λ _. ⌜ now (answer .exit) ≡ numbered 0 (runNumbers (freshRun (now (image .entry)) (now (events .entry)) budget (now (log .entry)))) (now (answer .entry)) ⌝ }
@@ -163,7 +170,14 @@ fn keep(state: &mut [u8], refusal: u32, device: Device)
 
 // One access to a saved device. Numbers: the place of a refusal, the status, the value, SCI, SMI, the monitor interrupt.
 #[no_mangle]
-pub extern "C" fn runnelopal_access(state: &mut [u8], write: bool, width: u32, port: u32, value: u32, answer: &mut [u64]) -> u32
+pub extern "C" fn runnelopal_access(
+    state: &mut [u8],
+    write: bool,
+    width: u32,
+    port: u32,
+    value: u32,
+    answer: &mut [u64],
+) -> u32
     ensures { λ r. ⌜ r ≡ savedAccess (now (state .entry)) (accessOf write width port value) .refusal ⌝ }
     ensures { λ _. ⌜ now (state .exit) ≡ kept (savedAccess (now (state .entry)) (accessOf write width port value) .refusal) (savedAccess (now (state .entry)) (accessOf write width port value) .device) (now (state .entry)) ⌝ }
     ensures { λ _. ⌜ now (answer .exit) ≡ numbered 0 (accessNumbers (savedAccess (now (state .entry)) (accessOf write width port value))) (now (answer .entry)) ⌝ }

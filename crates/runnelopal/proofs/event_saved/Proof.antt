@@ -1,4 +1,5 @@
 -- `runnelopal::event_saved` meets its contract. Assumes nothing.
+use Rattle.runnelopal.specs.Calls.{savedEvent}
 use borrow.Author.Needs.{needs}
 use Rattle.runnelopal.proofs.event_saved.Statement.{statement}
 use Rattle.runnelopal.proofs.event_saved.Tie as tie
@@ -10,13 +11,15 @@ event-requires : tie.Need-event-requires
 event-requires c κs = search needs
 
 returns : tie.Need-returns
-returns c = simp (c .before .before .before .load .ensures, c .before .if1 .taken, c .event .ensures)
+unfolding savedEvent
+returns c = rw (← (c .before .before .before .load .ensures), c .before .if1 .taken) (c .event .ensures)
 
 event-refused-requires : tie.Need-event-refused-requires
 event-refused-requires c κs = search needs
 
 returns-2 : tie.Need-returns-2
-returns-2 c = simp (c .before .before .before .load .ensures, c .before .if1 .left, c .event-refused .ensures)
+unfolding savedEvent
+returns-2 c = rw (← (c .before .before .before .load .ensures), c .before .if1 .left) (c .event-refused .ensures)
 
 pub event-saved-spec : {M : Type 1} → statement M
 event-saved-spec =

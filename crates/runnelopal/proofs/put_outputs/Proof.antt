@@ -1,4 +1,7 @@
 -- `runnelopal::put_outputs` meets its contract. Assumes nothing.
+use native.Mathlib.Omega.{arith}
+use mathlib.Core.Path.{_≡_, _∙_}
+use Prim.Native.Nat.{suc, _+_}
 use borrow.Author.Needs.{needs}
 use Rattle.runnelopal.proofs.put_outputs.Statement.{statement}
 use Rattle.runnelopal.proofs.put_outputs.Tie as tie
@@ -22,7 +25,11 @@ same-length : tie.Need-same-length
 same-length c = search needs
 
 returns : tie.Need-returns
-returns c = simp (c .before .before .before .before .before .before .before .before .before .before .put-flag .ensures, c .before .before .before .before .before .before .put-flag2 .ensures, c .before .before .put-flag3 .ensures)
+returns c =
+    let at = c .before .before .before .before .before .before .before .before .before .before .before .before .before .args .at in
+    let one : at + 1 ≡ suc at = omega arith in
+    let two : at + 2 ≡ suc (suc at) = omega arith in
+    c .before .before .put-flag3 .ensures ∙ rw (c .before .before .before .before .before .before .put-flag2 .ensures, c .before .before .before .before .before .before .before .before .before .before .put-flag .ensures, one, two)
 
 pub put-outputs-spec : {M : Type 1} → statement M
 put-outputs-spec =

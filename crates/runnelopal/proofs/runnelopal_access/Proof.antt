@@ -1,4 +1,6 @@
 -- `runnelopal::runnelopal_access` meets its contract. Assumes nothing.
+use Rattle.device.specs.declared.lone.Accessed.{Accessed}
+use mathlib.Core.Path.{ap, _∙_}
 use borrow.Author.Needs.{needs}
 use Rattle.runnelopal.proofs.runnelopal_access.Statement.{statement}
 use Rattle.runnelopal.proofs.runnelopal_access.Tie as tie
@@ -19,7 +21,11 @@ same-length-2 : tie.Need-same-length-2
 same-length-2 c = search needs
 
 returns : tie.Need-returns
-returns c = simp (c .before .before .before .before .before .before .before .before .before .access-saved .ensures, c .before .before .before .before .before .before .keep .ensures, c .before .before .put-accessed .ensures)
+returns c =
+    let e = c .before .before .before .before .before .before .before .before .before .access-saved .ensures in (
+      ap (λ (x : Accessed). x .refusal) e,
+      (c .before .before .before .before .before .before .keep .ensures ∙ rw e, c .before .before .put-accessed .ensures ∙ rw e),
+    )
 
 pub runnelopal-access-spec : {M : Type 1} → statement M
 runnelopal-access-spec =

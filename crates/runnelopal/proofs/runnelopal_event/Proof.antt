@@ -1,4 +1,6 @@
 -- `runnelopal::runnelopal_event` meets its contract. Assumes nothing.
+use Rattle.device.specs.declared.lone.Happened.{Happened}
+use mathlib.Core.Path.{ap, _∙_}
 use borrow.Author.Needs.{needs}
 use Rattle.runnelopal.proofs.runnelopal_event.Statement.{statement}
 use Rattle.runnelopal.proofs.runnelopal_event.Tie as tie
@@ -19,7 +21,11 @@ same-length-2 : tie.Need-same-length-2
 same-length-2 c = search needs
 
 returns : tie.Need-returns
-returns c = simp (c .before .before .before .before .before .before .before .before .before .event-saved .ensures, c .before .before .before .before .before .before .keep .ensures, c .before .before .put-happened .ensures)
+returns c =
+    let e = c .before .before .before .before .before .before .before .before .before .event-saved .ensures in (
+      ap (λ (x : Happened). x .refusal) e,
+      (c .before .before .before .before .before .before .keep .ensures ∙ rw e, c .before .before .put-happened .ensures ∙ rw e),
+    )
 
 pub runnelopal-event-spec : {M : Type 1} → statement M
 runnelopal-event-spec =

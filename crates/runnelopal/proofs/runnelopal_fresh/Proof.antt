@@ -1,4 +1,6 @@
 -- `runnelopal::runnelopal_fresh` meets its contract. Assumes nothing.
+use Rattle.state.specs.State.{saved}
+use mathlib.Core.Path.{_∙_}
 use borrow.Author.Tests.{eq-eqb, ne-eqb}
 use borrow.Author.Needs.{needs}
 use Rattle.runnelopal.proofs.runnelopal_fresh.Statement.{statement}
@@ -8,7 +10,8 @@ fresh-requires : tie.Need-fresh-requires
 fresh-requires c κs = search needs
 
 returns : tie.Need-returns
-returns c = simp (ne-eqb _ _ (c .if1 .taken))
+unfolding saved
+returns c = let k = ne-eqb _ _ (c .if1 .taken) in (rw k, rw k)
 
 save-requires : tie.Need-save-requires
 save-requires c κs = search needs
@@ -17,7 +20,7 @@ same-length : tie.Need-same-length
 same-length c = search needs
 
 returns-2 : tie.Need-returns-2
-returns-2 c = simp (eq-eqb _ _ (c .before .before .before .before .if1 .left), c .before .before .save .ensures)
+returns-2 c = (rw (eq-eqb _ _ (c .before .before .before .before .if1 .left)), c .before .before .save .ensures ∙ rw (c .before .before .before .before .before .fresh .ensures))
 
 pub runnelopal-fresh-spec : {M : Type 1} → statement M
 runnelopal-fresh-spec =

@@ -1,4 +1,6 @@
 -- `runnelopal::runnelopal_run` meets its contract. Assumes nothing.
+use Rattle.sequencer.specs.declared.Ran.{Ran}
+use mathlib.Core.Path.{ap, _∙_}
 use borrow.Author.Needs.{needs}
 use Rattle.runnelopal.proofs.runnelopal_run.Statement.{statement}
 use Rattle.runnelopal.proofs.runnelopal_run.Tie as tie
@@ -28,7 +30,11 @@ same-length-3 : tie.Need-same-length-3
 same-length-3 c = search needs
 
 returns : tie.Need-returns
-returns c = simp (c .before .before .before .before .before .before .before .before .before .before .before .run .ensures, c .before .before .before .before .before .before .save .ensures, c .before .before .put-run .ensures)
+returns c =
+    let k = rw (c .before .before .before .before .before .before .before .before .before .before .before .before .before .before .fresh .ensures, c .before .before .before .before .before .before .before .before .before .before .before .before .before .fresh2 .ensures) at (c .before .before .before .before .before .before .before .before .before .before .before .run .ensures) in (
+      (ap (λ (x : Ran). x .outcome) (k .0), k .1),
+      (c .before .before .before .before .before .before .save .ensures ∙ rw (k .0), c .before .before .put-run .ensures ∙ rw (k .0)),
+    )
 
 pub runnelopal-run-spec : {M : Type 1} → statement M
 runnelopal-run-spec =
