@@ -31,10 +31,9 @@ use Rattle.semantics.specs.World.{
   writeOf,
   written,
 }
-use Rattle.sequencer.specs.Holds.{Does, Holds, Moves, MovesAlone}
+use Rattle.sequencer.specs.Holds.{Does, Holds, Moves, Running, TakesNone}
 use Rattle.sequencer.specs.Sequencer.{laid}
 use Rattle.sequencer.specs.Step.{Machine, did, entered, looped, machine, testedBy}
-use Rattle.sequencer.specs.declared.running.Running.{Running}
 use Rattle.sequencer.proofs.Laid.{counter-pushed, counter-top, counter-set, counter-popped}
 
 -- ---- the kinds apart
@@ -205,7 +204,7 @@ movedTo x d p = record {
 
 pub delayed-by :
     (word : Record) (x : Running) (d : Device) → word .kind ≡ 3 → d ≡ happened (x .device) (tickEvent (word .value))
-    → MovesAlone word x (movedTo x d (x .place + 1))
+    → TakesNone word x (movedTo x d (x .place + 1))
 unfolding delayed
 delayed-by word x d k e = λ events log lent m h.
     rw (did-delay word m k)
@@ -236,12 +235,12 @@ to-target p h = record {
   lines = h .lines;
 }
 
-pub jumped : (word : Record) (x : Running) → word .kind ≡ 7 → MovesAlone word x (movedTo x (x .device) (word .target))
+pub jumped : (word : Record) (x : Running) → word .kind ≡ 7 → TakesNone word x (movedTo x (x .device) (word .target))
 jumped word x k = λ events log lent m h. rw (did-jump word m k) (to-target (word .target) h)
 
 pub entered-none :
     (word : Record) (x : Running) → word .kind ≡ 4 → word .value ≡ 0
-    → MovesAlone word x (movedTo x (x .device) (word .target))
+    → TakesNone word x (movedTo x (x .device) (word .target))
 entered-none word x k z = λ events log lent m h. rw (did-enter word m k, eq-eqb (word .value) 0 z) (to-target (word .target) h)
 
 -- ---- counters
@@ -280,7 +279,7 @@ room-left used value f n = pick (decLt used 8)
 
 pub entered-pushed :
     (word : Record) (x : Running) → word .kind ≡ 4 → (word .value ≡ 0 → ⊥) → x .used < 8
-    → MovesAlone word x (countedTo x (set (x .counters) (x .used) (word .value)) (x .used + 1) (x .place + 1))
+    → TakesNone word x (countedTo x (set (x .counters) (x .used) (word .value)) (x .used + 1) (x .place + 1))
 entered-pushed word x k z l = λ events log lent m h.
     let few : length (m .counters) < 8 = omega (arith, l, h .used) in
     rw (did-enter word m k, ne-eqb (word .value) 0 z)
@@ -322,7 +321,7 @@ topped x m a u l z = pick (m .counters) refl
 
 pub loop-over :
     (word : Record) (x : Running) → word .kind ≡ 5 → 0 < x .used → getD (x .counters) (x .used - 1) 0 ≤ 1
-    → MovesAlone word x (countedTo x (set (x .counters) (x .used - 1) 0) (x .used - 1) (x .place + 1))
+    → TakesNone word x (countedTo x (set (x .counters) (x .used - 1) 0) (x .used - 1) (x .place + 1))
 loop-over word x k z l = λ events log lent m h.
     let t = topped x m (h .counters) (h .used) (h .few) z in
     let one : t .top - 1 ≡ 0 = omega (arith, l, t .read) in
@@ -333,7 +332,7 @@ loop-over word x k z l = λ events log lent m h.
 
 pub loop-again :
     (word : Record) (x : Running) → word .kind ≡ 5 → 0 < x .used → 1 < getD (x .counters) (x .used - 1) 0
-    → MovesAlone word x
+    → TakesNone word x
     (countedTo x (set (x .counters) (x .used - 1) (getD (x .counters) (x .used - 1) 0 - 1)) (x .used) (word .target))
 loop-again word x k z l = λ events log lent m h.
     let t = topped x m (h .counters) (h .used) (h .few) z in

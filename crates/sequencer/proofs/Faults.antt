@@ -1,13 +1,17 @@
 -- What a word without a fault tells, each kind what it needs. Assumes nothing.
 use Prim.Native.Nat.{ℕ, zero, suc, _≤_, _<_}
 use mathlib.Core.Path.{_≡_, refl}
+use mathlib.Core.List.{List}
 use mathlib.Core.Bool.{Bool, true, false, cond, not, _&&_, _||_}
 use native.Mathlib.Omega.{arith}
-use borrow.Author.Tests.{leb-true, leb-false, eqb-true}
+use borrow.Author.Tests.{eqb-false, eqb-true, leb-false, leb-true, ne-eqb}
 use lib.Dec.{eqb, leb}
+use lib.ListN.{length}
 use Rattle.mask.proofs.Every.{and-left, and-right}
 use Rattle.record.specs.declared.Record.{Record}
 use Rattle.script.specs.Fields.{countFields}
+use Rattle.sequencer.specs.Holds.{CanReach, CanTurn, turns}
+use Rattle.sequencer.specs.declared.running.Position.{Position}
 use Rattle.sequencer.specs.Step.{aimsBeyond, ninthCounter, noCounter, logFull, wordFault}
 use Rattle.sequencer.specs.Word.{badWord, badWordKind, goodWordFields, wrongWordMark}
 
@@ -94,12 +98,35 @@ kind-known r h =
 beyond : (a k : ℕ) → a ≤ k → (k ≡ a → ⊥) → suc a ≤ k
 beyond a k h n = omega arith
 
-from-seven : (k : ℕ) → 7 ≤ k → k ≤ 8 → (k ≡ 8 → ⊥) → k ≡ 7
-from-seven k l h n = omega arith
+from-six : (k : ℕ) → 6 ≤ k → k ≤ 8 → (k ≡ 7 → ⊥) → (k ≡ 8 → ⊥) → k ≡ 6
+from-six k l h a b = omega arith
 
--- a kind that is none of the others is 7
-pub last :
-    (k : ℕ) → 1 ≤ k → k ≤ 8 → (k ≡ 1 → ⊥) → (k ≡ 2 → ⊥) → (k ≡ 3 → ⊥) → (k ≡ 4 → ⊥) → (k ≡ 5 → ⊥) → (k ≡ 6 → ⊥) → (k ≡ 8 → ⊥)
-    → k ≡ 7
-last k a b n1 n2 n3 n4 n5 n6 n8 =
-    from-seven k (beyond 6 k (beyond 5 k (beyond 4 k (beyond 3 k (beyond 2 k (beyond 1 k a n1) n2) n3) n4) n5) n6) b n8
+-- ---- what the two groups of words ask
+pub can-turn :
+    (words room : ℕ) (x : Position) (r : Record) → wordFault words room (x .used) (x .logged) r ≡ 0 → x .used ≤ 8
+    → turns r ≡ true → CanTurn x r
+can-turn words room x r z few t =
+    let c = clean words room (x .used) (x .logged) r z in
+    record {
+      enters = λ k. enter-room (x .used) r k (c .counter);
+      loops = λ k. loop-open (x .used) r k (c .open-loop);
+      few = few;
+      jumps = λ a b. eqb-true (r .kind) 7 (rw (ne-eqb (r .kind) 4 a, ne-eqb (r .kind) 5 b) at t);
+    }
+
+pub can-reach :
+    (words : ℕ) (x : Position) (r : Record) (log : List ℕ) → wordFault words (length log) (x .used) (x .logged) r ≡ 0
+    → turns r ≡ false → (r .kind ≡ 8 → ⊥) → CanReach x r log
+can-reach words x r log z t h =
+    let c = clean words (length log) (x .used) (x .logged) r z in
+    let k = kind-known r (c .good) in
+    let n4 = eqb-false (r .kind) 4 (or-left (eqb (r .kind) 4) _ t) in
+    let rest = or-right (eqb (r .kind) 4) _ t in
+    let n5 = eqb-false (r .kind) 5 (or-left (eqb (r .kind) 5) _ rest) in
+    let n7 = eqb-false (r .kind) 7 (or-right (eqb (r .kind) 5) _ rest) in
+    record {
+      reads = λ e. read-room (length log) (x .logged) r e (c .log-room);
+      delays = λ e. delay-value r e (c .good);
+      tests = λ n1 n2 n3.
+          from-six (r .kind) (beyond 5 (r .kind) (beyond 4 (r .kind) (beyond 3 (r .kind) (beyond 2 (r .kind) (beyond 1 (r .kind) (k .0) n1) n2) n3) n4) n5) (k .1) n7 h;
+    }

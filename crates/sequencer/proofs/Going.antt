@@ -9,13 +9,13 @@ use lib.ListN.{length, length-drop}
 use Rattle.device.specs.declared.Device.{Device}
 use Rattle.record.specs.Record.{recordAt}
 use Rattle.record.specs.declared.Record.{Record}
-use Rattle.sequencer.specs.Holds.{Does, EndsAs, Holds, Starts, answer}
+use Rattle.sequencer.specs.Holds.{Does, EndsAs, Holds, Running, Starts, answer, running}
 use Rattle.sequencer.specs.Run.{Ended, ended, follow, imageRun, ran}
 use Rattle.sequencer.specs.Step.{Machine, did, faultAt, stepOf, taken, wordFault}
 use Rattle.sequencer.specs.Word.{imageWords, wordAt}
 use Rattle.sequencer.specs.declared.Ran.{Ran}
 use Rattle.sequencer.specs.declared.Sequencer.{Sequencer}
-use Rattle.sequencer.specs.declared.running.Running.{Running}
+use Rattle.sequencer.specs.declared.running.Position.{Position}
 
 pub record Going (image : List ℕ) (whole : Ended) (events lent : List ℕ) (budget : ℕ) (log : List ℕ) (x : Running) (steps : ℕ)
     : Type 0 where
@@ -26,14 +26,14 @@ pub record Going (image : List ℕ) (whole : Ended) (events lent : List ℕ) (bu
   pub same : length log ≡ length lent
 
 pub starts :
-    (image : List ℕ) (d : Device) (s : Sequencer) (events lent : List ℕ) (budget : ℕ) (x : Running) → Starts d s x
-    → Going image (imageRun image d s events budget (length lent)) events lent budget lent x 0
+    (image : List ℕ) (d : Device) (s : Sequencer) (events lent : List ℕ) (budget : ℕ) (x : Position) → Starts s x
+    → Going image (imageRun image d s events budget (length lent)) events lent budget lent (running d x) 0
 unfolding imageRun
 starts image d s events lent budget x h =
     let e : budget - 0 ≡ budget = omega arith in
     record {
       machine = _;
-      holds = h events lent;
+      holds = h d events lent;
       rest = rw e;
       within = omega arith;
       same = refl;

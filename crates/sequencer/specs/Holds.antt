@@ -1,7 +1,9 @@
 -- The code's running state and the definitions' machine are the same thing.
-use Prim.Native.Nat.{ℕ, _≤_}
+use Prim.Native.Nat.{ℕ, _≤_, _<_}
 use mathlib.Core.Path.{_≡_}
+use mathlib.Core.Bool.{Bool, _||_}
 use mathlib.Core.List.{List}
+use lib.Dec.{eqb}
 use lib.ListN.{drop, length}
 use Rattle.device.specs.declared.Device.{Device}
 use Rattle.semantics.specs.World.{startWorld}
@@ -11,7 +13,34 @@ use Rattle.sequencer.specs.Sequencer.{countersOf, laid}
 use Rattle.sequencer.specs.Step.{Machine, did, machine}
 use Rattle.sequencer.specs.declared.Ran.{Ran}
 use Rattle.sequencer.specs.declared.Sequencer.{Sequencer}
-use Rattle.sequencer.specs.declared.running.Running.{Running}
+use Rattle.sequencer.specs.declared.running.Moved.{Moved}
+use Rattle.sequencer.specs.declared.running.Position.{Position}
+
+-- a run on its way: the device, and where it stands
+pub record Running : Type 0 where
+  pub device : Device
+  pub place : ℕ
+  pub counters : List ℕ
+  pub used : ℕ
+  pub taken : ℕ
+  pub logged : ℕ
+
+abbrev pub running : Device → Position → Running
+running d x = record {
+  device = d;
+  place = x .place;
+  counters = x .counters;
+  used = x .used;
+  taken = x .taken;
+  logged = x .logged;
+}
+
+abbrev pub behind : Moved → Running
+behind r = running (r .device) (r .position)
+
+-- an enter, a loop end, a jump
+abbrev pub turns : Record → Bool
+turns r = eqb (r .kind) 4 || (eqb (r .kind) 5 || eqb (r .kind) 7)
 
 pub record Holds (x : Running) (events lent log : List ℕ) (m : Machine) : Type 0 where
   pub device : x .device ≡ m .world .device
@@ -34,13 +63,30 @@ abbrev pub Moves : Record → List ℕ → Running → Running → Type 0
 Moves word events x y = (log : List ℕ) → Does word events x log y log
 
 -- and it takes no event
-abbrev pub MovesAlone : Record → Running → Running → Type 0
-MovesAlone word x y = (events : List ℕ) → Moves word events x y
+abbrev pub TakesNone : Record → Running → Running → Type 0
+TakesNone word x y = (events : List ℕ) → Moves word events x y
+
+-- and it leaves the device alone
+abbrev pub MovesAlone : Record → Position → Position → Type 0
+MovesAlone word x y = (d : Device) → TakesNone word (running d x) (running d y)
+
+-- what the words ask that move the position alone, and those that reach the device: they are asked only of words without a fault
+pub record CanTurn (x : Position) (word : Record) : Type 0 where
+  pub enters : word .kind ≡ 4 → 8 ≤ x .used → word .value ≡ 0
+  pub loops : word .kind ≡ 5 → 0 < x .used
+  pub few : x .used ≤ 8
+  pub jumps : (word .kind ≡ 4 → ⊥) → (word .kind ≡ 5 → ⊥) → word .kind ≡ 7
+
+pub record CanReach (x : Position) (word : Record) (log : List ℕ) : Type 0 where
+  pub reads : word .kind ≡ 2 → x .logged < length log
+  pub delays : word .kind ≡ 3 → word .value ≤ 65535
+  pub tests : (word .kind ≡ 1 → ⊥) → (word .kind ≡ 2 → ⊥) → (word .kind ≡ 3 → ⊥) → word .kind ≡ 6
 
 -- ---- the start and the end of a run
-abbrev pub Starts : Device → Sequencer → Running → Type 0
-Starts d s x =
-    (events lent : List ℕ) → Holds x events lent lent (machine (s .place) (countersOf s) (startWorld d events))
+abbrev pub Starts : Sequencer → Position → Type 0
+Starts s x =
+    (d : Device) (events lent : List ℕ)
+    → Holds (running d x) events lent lent (machine (s .place) (countersOf s) (startWorld d events))
 
 abbrev pub answer : (outcome steps : ℕ) → Running → Ran
 answer outcome steps x = record {

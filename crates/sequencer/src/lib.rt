@@ -2,7 +2,7 @@
 pub mod running;
 pub mod word;
 
-use crate::running::Running;
+use crate::running::Position;
 use device::Device;
 ghost use mathlib.Core.Path.{_≡_};
 ghost use mathlib.Core.Bool.{true};
@@ -20,7 +20,7 @@ ghost use Rattle.sequencer.specs.Run.{
   asRefused,
 };
 ghost use Rattle.sequencer.specs.Word.{imageWords};
-ghost use Rattle.sequencer.specs.Holds.{Starts, EndsAs, answer};
+ghost use Rattle.sequencer.specs.Holds.{Starts, EndsAs, answer, running};
 
 // The place of the next word, and the loop counters, bottom first: `used` of them are in use, and the rest are 0.
 pub struct Sequencer {
@@ -164,14 +164,13 @@ fn refusal(image: &[u8], device: Device, sequencer: Sequencer, events: &[u32]) -
 
 // ---- the run
 
-// The state at the start of a run; the counters go into an array of the run's own.
-fn start(device: Device, sequencer: Sequencer) -> Running
+// Where a run starts; the counters go into an array of the run's own.
+fn start(sequencer: Sequencer) -> Position
     requires { ⌜ sequencerInRange sequencer ≡ true ⌝ }
-    ensures { λ r. ⌜ Starts device sequencer r ⌝ }
+    ensures { λ r. ⌜ Starts sequencer r ⌝ }
 {
     let given = sequencer.counters;
-    Running {
-        device,
+    Position {
         place: sequencer.place,
         counters: [
             given[0],
@@ -189,11 +188,10 @@ fn start(device: Device, sequencer: Sequencer) -> Running
     }
 }
 
-fn ended(outcome: u32, steps: u32, x: Running) -> Ran
-    ensures { λ r. ⌜ r ≡ answer outcome steps x ⌝ }
+fn ended(outcome: u32, steps: u32, device: Device, x: Position) -> Ran
+    ensures { λ r. ⌜ r ≡ answer outcome steps (running device x) ⌝ }
 {
     let counters = x.counters;
-    let device = x.device;
     let sequencer = Sequencer {
         place: x.place,
         counters,
@@ -229,24 +227,32 @@ fn run_words(
     ensures { λ r. ⌜ EndsAs (now (events .entry)) (now (log .entry)) (now (log .exit)) r (imageRun (now (image .entry)) device sequencer (now (events .entry)) budget (length (now (log .entry)))) ⌝ }
 {
     let words = (image.len() / 12) as u32;
-    let mut x = start(device, sequencer);
+    let mut chip = device;
+    let mut x = start(sequencer);
     let mut steps: u32 = 0;
     while steps < budget {
         if words <= x.place {
-            return ended(PLACE_BEYOND, steps, x);
+            return ended(PLACE_BEYOND, steps, chip, x);
         }
         let word = record::read(image, 12 * index(x.place));
         let fault = word::fault(words, log.len(), x.used, x.logged, word);
         if fault != 0 {
-            return ended(fault, steps, x);
+            return ended(fault, steps, chip, x);
         }
         if word.kind == word::HALT {
-            return ended(HALTED, steps + 1, x);
+            return ended(HALTED, steps + 1, chip, x);
         }
-        x = running::step(x, word, words, events, log);
-        steps = steps + 1;
+        if word::turns(word) {
+            x = x.turned(word);
+            steps = steps + 1;
+        } else {
+            let moved = running::reach(chip, x, word, events, log);
+            chip = moved.device;
+            x = moved.position;
+            steps = steps + 1;
+        }
     }
-    ended(BUDGET_SPENT, steps, x)
+    ended(BUDGET_SPENT, steps, chip, x)
 }
 
 // Runs an image from a sequencer's state: document 01's one run call. A lone step is a run with budget 1.

@@ -1,4 +1,4 @@
-// What a word does, kind by kind, when it neither faults nor halts.
+// What a word does, kind by kind, when it neither faults nor halts. The device is moved only by the words that reach it.
 use crate::word;
 use access::Access;
 use device::Device;
@@ -7,17 +7,22 @@ ghost use mathlib.Core.Path.{_≡_};
 ghost use Prim.Native.Nat.{_≤_, _<_};
 ghost use lib.ListN.{length, drop};
 ghost use Rattle.semantics.specs.World.{nextApplied, eventsBehind, readOf, writeOf};
-ghost use Rattle.sequencer.specs.Step.{wordFault};
-ghost use Rattle.sequencer.specs.Holds.{Does, Moves, MovesAlone};
+ghost use Rattle.sequencer.specs.Holds.{CanReach, CanTurn, Does, Moves, MovesAlone, TakesNone, behind, running};
 
-// A run on its way. The counters, bottom first, have an array of their own.
-pub struct Running {
-    pub device: Device,
+// Where a run stands, beside its device: the next word, the counters in use, bottom first, in an array of their own, and how many
+// events are taken and values logged.
+pub struct Position {
     pub place: u32,
     pub counters: [u32; 8],
     pub used: usize,
     pub taken: usize,
     pub logged: usize,
+}
+
+// The device and the position behind a word.
+pub struct Moved {
+    pub device: Device,
+    pub position: Position,
 }
 
 // The device behind the next event, if there is one.
@@ -62,51 +67,9 @@ fn write_of(word: Record) -> Access
     }
 }
 
-impl Running {
-    fn write(mut self, word: Record, events: &[u32]) -> Self
-        requires { ⌜ (self .place < 4096) × (self .taken ≤ length (now events)) × (word .kind ≡ 1) ⌝ }
-        ensures { λ r. ⌜ Moves word (now (events .entry)) self r ⌝ }
-    {
-        let device = next_applied(self.device, events, self.taken);
-        let reached = device.accessed(write_of(word));
-        let taken = taken_behind(events, self.taken);
-        let next = reached.device;
-        self.device = next;
-        self.taken = taken;
-        self.place = self.place + 1;
-        self
-    }
+// ---- words that move the position alone
 
-    // There is room for the value.
-    fn read(mut self, word: Record, events: &[u32], log: &mut [u32]) -> Self
-        requires { ⌜ (self .place < 4096) × (self .taken ≤ length (now events)) × (word .kind ≡ 2) × (self .logged < length (now log)) ⌝ }
-        ensures { λ r. ⌜ Does word (now (events .entry)) self (now (log .entry)) r (now (log .exit)) ⌝ }
-    {
-        let device = next_applied(self.device, events, self.taken);
-        let reached = device.accessed(read_of(word));
-        let taken = taken_behind(events, self.taken);
-        let next = reached.device;
-        let answer = reached.answer;
-        let at = self.logged;
-        log[at] = answer.value;
-        self.device = next;
-        self.taken = taken;
-        self.logged = at + 1;
-        self.place = self.place + 1;
-        self
-    }
-
-    fn delay(mut self, word: Record) -> Self
-        requires { ⌜ (self .place < 4096) × (word .kind ≡ 3) × (word .value ≤ 65535) ⌝ }
-        ensures { λ r. ⌜ MovesAlone word self r ⌝ }
-    {
-        let device = self.device;
-        let next = device.happened(device::event::TICKS * device::event::KIND + word.value);
-        self.device = next;
-        self.place = self.place + 1;
-        self
-    }
-
+impl Position {
     // Repeat 0 jumps and pushes no counter.
     fn enter(mut self, word: Record) -> Self
         requires { ⌜ (self .place < 4096) × (word .kind ≡ 4) × (8 ≤ self .used → word .value ≡ 0) ⌝ }
@@ -141,25 +104,6 @@ impl Running {
         self
     }
 
-    fn test(mut self, word: Record, events: &[u32]) -> Self
-        requires { ⌜ (self .place < 4096) × (self .taken ≤ length (now events)) × (word .kind ≡ 6) ⌝ }
-        ensures { λ r. ⌜ Moves word (now (events .entry)) self r ⌝ }
-    {
-        let device = next_applied(self.device, events, self.taken);
-        let reached = device.accessed(read_of(word));
-        let behind = taken_behind(events, self.taken);
-        let next = reached.device;
-        let answer = reached.answer;
-        self.device = next;
-        self.taken = behind;
-        if answer.value & word.value == 0 {
-            self.place = word.target;
-            return self;
-        }
-        self.place = self.place + 1;
-        self
-    }
-
     fn jump(mut self, word: Record) -> Self
         requires { ⌜ word .kind ≡ 7 ⌝ }
         ensures { λ r. ⌜ MovesAlone word self r ⌝ }
@@ -167,33 +111,112 @@ impl Running {
         self.place = word.target;
         self
     }
+
+    // An enter, a loop end or a jump.
+    pub fn turned(self, word: Record) -> Self
+        requires { ⌜ (self .place < 4096) × CanTurn self word ⌝ }
+        ensures { λ r. ⌜ MovesAlone word self r ⌝ }
+    {
+        let kind = word.kind;
+        if kind == word::ENTER {
+            return self.enter(word);
+        }
+        if kind == word::LOOP_END {
+            return self.loop_end(word);
+        }
+        self.jump(word)
+    }
 }
 
-// What a word does that does not fault and is no halt.
-pub fn step(x: Running, word: Record, words: u32, events: &[u32], log: &mut [u32]) -> Running
-    requires { ⌜ (x .place < 4096) × (x .taken ≤ length (now events)) × (x .used ≤ 8) ⌝ }
-    requires { ⌜ wordFault words (length (now log)) (x .used) (x .logged) word ≡ 0 ⌝ }
-    requires { ⌜ (word .kind ≡ 8 → ⊥) ⌝ }
-    ensures { λ r. ⌜ Does word (now (events .entry)) x (now (log .entry)) r (now (log .exit)) ⌝ }
+// ---- words that reach the device
+
+fn write(device: Device, mut x: Position, word: Record, events: &[u32]) -> Moved
+    requires { ⌜ (x .place < 4096) × (x .taken ≤ length (now events)) × (word .kind ≡ 1) ⌝ }
+    ensures { λ r. ⌜ Moves word (now (events .entry)) (running device x) (behind r) ⌝ }
+{
+    let applied = next_applied(device, events, x.taken);
+    let reached = applied.accessed(write_of(word));
+    let taken = taken_behind(events, x.taken);
+    let next = reached.device;
+    x.taken = taken;
+    x.place = x.place + 1;
+    Moved {
+        device: next,
+        position: x,
+    }
+}
+
+// There is room for the value.
+fn read(device: Device, mut x: Position, word: Record, events: &[u32], log: &mut [u32]) -> Moved
+    requires { ⌜ (x .place < 4096) × (x .taken ≤ length (now events)) × (word .kind ≡ 2) × (x .logged < length (now log)) ⌝ }
+    ensures { λ r. ⌜ Does word (now (events .entry)) (running device x) (now (log .entry)) (behind r) (now (log .exit)) ⌝ }
+{
+    let applied = next_applied(device, events, x.taken);
+    let reached = applied.accessed(read_of(word));
+    let taken = taken_behind(events, x.taken);
+    let next = reached.device;
+    let answer = reached.answer;
+    let at = x.logged;
+    log[at] = answer.value;
+    x.taken = taken;
+    x.logged = at + 1;
+    x.place = x.place + 1;
+    Moved {
+        device: next,
+        position: x,
+    }
+}
+
+fn delay(device: Device, mut x: Position, word: Record) -> Moved
+    requires { ⌜ (x .place < 4096) × (word .kind ≡ 3) × (word .value ≤ 65535) ⌝ }
+    ensures { λ r. ⌜ (TakesNone word (running device x) (behind r)) ⌝ }
+{
+    let next = device.happened(device::event::TICKS * device::event::KIND + word.value);
+    x.place = x.place + 1;
+    Moved {
+        device: next,
+        position: x,
+    }
+}
+
+fn test(device: Device, mut x: Position, word: Record, events: &[u32]) -> Moved
+    requires { ⌜ (x .place < 4096) × (x .taken ≤ length (now events)) × (word .kind ≡ 6) ⌝ }
+    ensures { λ r. ⌜ Moves word (now (events .entry)) (running device x) (behind r) ⌝ }
+{
+    let applied = next_applied(device, events, x.taken);
+    let reached = applied.accessed(read_of(word));
+    let taken = taken_behind(events, x.taken);
+    let next = reached.device;
+    let answer = reached.answer;
+    x.taken = taken;
+    if answer.value & word.value == 0 {
+        x.place = word.target;
+        return Moved {
+            device: next,
+            position: x,
+        };
+    }
+    x.place = x.place + 1;
+    Moved {
+        device: next,
+        position: x,
+    }
+}
+
+// A write, a read, a delay or a test.
+pub fn reach(device: Device, x: Position, word: Record, events: &[u32], log: &mut [u32]) -> Moved
+    requires { ⌜ (x .place < 4096) × (x .taken ≤ length (now events)) × CanReach x word (now log) ⌝ }
+    ensures { λ r. ⌜ Does word (now (events .entry)) (running device x) (now (log .entry)) (behind r) (now (log .exit)) ⌝ }
 {
     let kind = word.kind;
     if kind == word::WRITE {
-        return x.write(word, events);
+        return write(device, x, word, events);
     }
     if kind == word::READ {
-        return x.read(word, events, log);
+        return read(device, x, word, events, log);
     }
     if kind == word::DELAY {
-        return x.delay(word);
+        return delay(device, x, word);
     }
-    if kind == word::ENTER {
-        return x.enter(word);
-    }
-    if kind == word::LOOP_END {
-        return x.loop_end(word);
-    }
-    if kind == word::TEST {
-        return x.test(word, events);
-    }
-    x.jump(word)
+    test(device, x, word, events)
 }

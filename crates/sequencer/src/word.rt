@@ -4,6 +4,7 @@ ghost use mathlib.Core.Path.{_≡_};
 ghost use mathlib.Core.Bool.{_||_};
 ghost use lib.Dec.{eqb};
 ghost use Rattle.sequencer.specs.Word.{usesTarget, goodWordFields, badWord};
+ghost use Rattle.sequencer.specs.Holds.{turns};
 ghost use Rattle.sequencer.specs.Step.{aimsBeyond, ninthCounter, noCounter, logFull, wordFault};
 
 pub const WRITE: u32 = 1;
@@ -147,4 +148,17 @@ pub fn fault(words: u32, room: usize, used: usize, logged: usize, r: Record) -> 
         return 24;
     }
     0
+}
+
+// A word that moves the position alone: an enter, a loop end, a jump.
+pub fn turns(r: Record) -> bool
+    ensures { λ b. ⌜ b ≡ turns r ⌝ }
+{
+    if r.kind == ENTER {
+        return true;
+    }
+    if r.kind == LOOP_END {
+        return true;
+    }
+    r.kind == JUMP
 }

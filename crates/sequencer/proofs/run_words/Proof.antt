@@ -1,25 +1,25 @@
 -- `sequencer::run_words` meets its contract. Assumes nothing.
 use Rattle.sequencer.proofs.Going.{Going, faulted, further, halted, looked, place-beyond, spent, starts}
+use Rattle.sequencer.proofs.Faults.{can-reach, can-turn}
 use Rattle.sequencer.specs.declared.Sequencer.{Sequencer}
 use Rattle.sequencer.specs.Run.{imageRun}
-use Rattle.sequencer.specs.Holds.{Starts}
-use Rattle.record.specs.Record.{recordAt}
-use Rattle.device.specs.declared.Device.{Device}
+use Rattle.sequencer.specs.Holds.{Starts, running}
 use borrow.Author.Needs.{needs}
 use native.Mathlib.Omega.{arith}
 use lib.ListN.{length}
-use mathlib.Core.Path.{ap, sym, _∙_}
-use Prim.Native.Nat.{ℕ, _*_, _-_}
+use mathlib.Core.Path.{refl, sym, _∙_}
+use Prim.Native.Nat.{_-_}
+use borrow.Author.Tests.{eq-eqb, le-leb, le-ltb, lt-leb, lt-ltb, ne-eqb}
 use Rattle.sequencer.proofs.run_words.Statement.{statement}
 use Rattle.sequencer.proofs.run_words.Tie as tie
 
 abbrev Inv-loop : tie.InvT-loop
-Inv-loop image events budget log₀ words x₀ steps₀ log x steps =
-    (d : Device) (s : Sequencer) → Starts d s x₀
-    → Going image (imageRun image d s events budget (length log₀)) events log₀ budget log x steps
+Inv-loop image events budget log₀ words chip₀ x₀ steps₀ log chip x steps =
+    (s : Sequencer) → Starts s x₀
+    → Going image (imageRun image chip₀ s events budget (length log₀)) events log₀ budget log (running chip x) steps
 
 abbrev μ-loop : tie.MeasureT-loop
-μ-loop image events budget log₀ words x₀ steps₀ log x steps = budget - steps
+μ-loop image events budget log₀ words chip₀ x₀ steps₀ log chip x steps = budget - steps
 
 cast-words : tie.Need-cast-words Inv-loop μ-loop
 cast-words c = omega arith
@@ -28,7 +28,7 @@ start-requires : tie.Need-start-requires Inv-loop μ-loop
 start-requires c κs = c .before .before .before .pre .1
 
 loop-holds : tie.Need-loop-holds Inv-loop μ-loop
-loop-holds c = λ d s h. starts _ d s _ _ _ _ h
+loop-holds c = λ s h. starts _ _ s _ _ _ _ h
 
 ended-requires : tie.Need-ended-requires Inv-loop μ-loop
 ended-requires c κs = search needs
@@ -37,13 +37,14 @@ same-length : tie.Need-same-length Inv-loop μ-loop
 same-length c =
     let l = c .before .before .before .before in
     let e = l .before .before .before .before .before in
-    (l .loop .inv (e .args .device) (e .args .sequencer) (l .before .start .ensures)) .same
+    let g = l .loop .inv (e .args .sequencer) (l .before .start .ensures) in
+    g .same
 
 returns : tie.Need-returns Inv-loop μ-loop
 returns c =
     let l = c .before .before .before .before in
     let e = l .before .before .before .before .before in
-    let g = l .loop .inv (e .args .device) (e .args .sequencer) (l .before .start .ensures) in
+    let g = l .loop .inv (e .args .sequencer) (l .before .start .ensures) in
     place-beyond _ g (c .before .before .before .loop-test .taken) (c .before .if1 .taken) (c .ended .ensures)
 
 index-requires : tie.Need-index-requires Inv-loop μ-loop
@@ -65,15 +66,15 @@ same-length-2 : tie.Need-same-length-2 Inv-loop μ-loop
 same-length-2 c =
     let l = c .before .before .before .before .before .before .before .before in
     let e = l .before .before .before .before .before in
-    (l .loop .inv (e .args .device) (e .args .sequencer) (l .before .start .ensures)) .same
+    let g = l .loop .inv (e .args .sequencer) (l .before .start .ensures) in
+    g .same
 
 returns-2 : tie.Need-returns-2 Inv-loop μ-loop
 returns-2 c =
-    let f = c .before .before in
-    let l = f .before .before .before .before .before .before in
+    let l = c .before .before .before .before .before .before .before .before in
     let e = l .before .before .before .before .before in
-    let g = l .loop .inv (e .args .device) (e .args .sequencer) (l .before .start .ensures) in
-    faulted _ g (f .before .before .before .before .before .loop-test .taken) (looked (f .before .before .before .if1 .left) (f .before .read .ensures) (f .before .before .index .ensures) (f .fault .ensures)) (c .before .if2 .taken) (c .ended2 .ensures)
+    let g = l .loop .inv (e .args .sequencer) (l .before .start .ensures) in
+    faulted _ g (c .before .before .before .before .before .before .before .loop-test .taken) (looked (c .before .before .before .before .before .if1 .left) (c .before .before .before .read .ensures) (c .before .before .before .before .index .ensures) (c .before .before .fault .ensures)) (c .before .if2 .taken) (c .ended2 .ensures)
 
 add-ended : tie.Need-add-ended Inv-loop μ-loop
 add-ended c = omega (arith, c .before .before .before .before .before .before .before .before .loop-test .taken, c .before .before .before .before .before .before .before .before .before .before .before .before .before .before .fits .budget)
@@ -85,37 +86,56 @@ same-length-3 : tie.Need-same-length-3 Inv-loop μ-loop
 same-length-3 c =
     let l = c .before .before .before .before .before .before .before .before .before .before in
     let e = l .before .before .before .before .before in
-    (l .loop .inv (e .args .device) (e .args .sequencer) (l .before .start .ensures)) .same
+    let g = l .loop .inv (e .args .sequencer) (l .before .start .ensures) in
+    g .same
 
 returns-3 : tie.Need-returns-3 Inv-loop μ-loop
 returns-3 c =
-    let f = c .before .before .before .before in
-    let l = f .before .before .before .before .before .before in
+    let l = c .before .before .before .before .before .before .before .before .before .before in
     let e = l .before .before .before .before .before in
-    let g = l .loop .inv (e .args .device) (e .args .sequencer) (l .before .start .ensures) in
-    halted _ g (f .before .before .before .before .before .loop-test .taken) (looked (f .before .before .before .if1 .left) (f .before .read .ensures) (f .before .before .index .ensures) (f .fault .ensures)) (c .before .before .before .if2 .left) (c .before .if3 .taken) (c .ended3 .ensures)
+    let g = l .loop .inv (e .args .sequencer) (l .before .start .ensures) in
+    halted _ g (c .before .before .before .before .before .before .before .before .before .loop-test .taken) (looked (c .before .before .before .before .before .before .before .if1 .left) (c .before .before .before .before .before .read .ensures) (c .before .before .before .before .before .before .index .ensures) (c .before .before .before .before .fault .ensures)) (c .before .before .before .if2 .left) (c .before .if3 .taken) (c .ended3 .ensures)
 
-step-requires : tie.Need-step-requires Inv-loop μ-loop
-step-requires c κs =
-    let z = sym (c .before .before .before .before .fault .ensures) ∙ c .before .before .before .if2 .left in
-    let f = c .before .before .before .before in
-    let l = f .before .before .before .before .before .before in
+turns-requires : tie.Need-turns-requires Inv-loop μ-loop
+turns-requires c κs = search needs
+
+turned-requires : tie.Need-turned-requires Inv-loop μ-loop
+turned-requires c κs =
+    let z = sym (c .before .before .before .before .before .fault .ensures) ∙ c .before .before .before .before .if2 .left in
+    let t = sym (c .before .turns .ensures) ∙ c .if4 .taken in
+    let l = c .before .before .before .before .before .before .before .before .before .before .before in
     let e = l .before .before .before .before .before in
-    let g = l .loop .inv (e .args .device) (e .args .sequencer) (l .before .start .ensures) in (
-      (omega (arith, f .before .before .before .if1 .left, e .pre .0), g .holds .inside, omega (arith, g .holds .used, g .holds .few)),
-      (z, c .before .if3 .left),
-    )
+    let g = l .loop .inv (e .args .sequencer) (l .before .start .ensures) in
+    (omega (arith, c .before .before .before .before .before .before .before .before .if1 .left, e .pre .0), can-turn _ _ (l .loop .x) (c .before .before .before .before .before .before .read .result) z (omega (arith, g .holds .used, g .holds .few)) t)
 
 add-steps : tie.Need-add-steps Inv-loop μ-loop
-add-steps c = omega (arith, c .before .before .before .before .before .before .before .before .before .before .before .before .loop-test .taken, c .before .before .before .before .before .before .before .before .before .before .before .before .before .before .before .before .before .before .fits .budget)
+add-steps c = omega (arith, c .before .before .before .before .before .before .before .before .before .before .before .loop-test .taken, c .before .before .before .before .before .before .before .before .before .before .before .before .before .before .before .before .before .fits .budget)
 
 loop-less : tie.Need-loop-less Inv-loop μ-loop
 loop-less c = omega arith
 
 loop-again : tie.Need-loop-again Inv-loop μ-loop
-loop-again c = λ d s h.
-    let f = c .before .before .before .before .before .before .before in
-    further _ _ (f .before .before .before .before .before .before .loop .inv d s h) (f .before .before .before .before .before .loop-test .taken) (looked (f .before .before .before .if1 .left) (f .before .read .ensures) (f .before .before .index .ensures) (f .fault .ensures)) (c .before .before .before .before .before .before .if2 .left) (c .before .before .before .before .if3 .left) (c .before .before .step .ensures) (c .before .before .step .kept .1 .1 .1 .1 .0)
+loop-again c = λ s h.
+    further _ _ (c .before .before .before .before .before .before .before .before .before .before .before .before .loop .inv s h) (c .before .before .before .before .before .before .before .before .before .before .before .loop-test .taken) (looked (c .before .before .before .before .before .before .before .before .before .if1 .left) (c .before .before .before .before .before .before .before .read .ensures) (c .before .before .before .before .before .before .before .before .index .ensures) (c .before .before .before .before .before .before .fault .ensures)) (c .before .before .before .before .before .if2 .left) (c .before .before .before .if3 .left) (c .turned .ensures _ _ _) refl
+
+reach-requires : tie.Need-reach-requires Inv-loop μ-loop
+reach-requires c κs =
+    let z = sym (c .before .before .before .before .before .before .fault .ensures) ∙ c .before .before .before .before .before .if2 .left in
+    let t = sym (c .before .before .turns .ensures) ∙ c .before .if4 .left in
+    let l = c .before .before .before .before .before .before .before .before .before .before .before .before in
+    let e = l .before .before .before .before .before in
+    let g = l .loop .inv (e .args .sequencer) (l .before .start .ensures) in
+    (omega (arith, c .before .before .before .before .before .before .before .before .before .if1 .left, e .pre .0), g .holds .inside, can-reach _ (l .loop .x) (c .before .before .before .before .before .before .before .read .result) (l .loop .log) z t (c .before .before .before .if3 .left))
+
+add-steps-2 : tie.Need-add-steps-2 Inv-loop μ-loop
+add-steps-2 c = omega (arith, c .before .before .before .before .before .before .before .before .before .before .before .before .before .before .before .before .loop-test .taken, c .before .before .before .before .before .before .before .before .before .before .before .before .before .before .before .before .before .before .before .before .before .before .fits .budget)
+
+loop-less-2 : tie.Need-loop-less-2 Inv-loop μ-loop
+loop-less-2 c = omega (arith, c .before .before .before .before .before .before .before .before .before .before .before .before .before .before .before .before .loop-test .taken)
+
+loop-again-2 : tie.Need-loop-again-2 Inv-loop μ-loop
+loop-again-2 c = λ s h.
+    further _ _ (c .before .before .before .before .before .before .before .before .before .before .before .before .before .before .before .before .before .loop .inv s h) (c .before .before .before .before .before .before .before .before .before .before .before .before .before .before .before .before .loop-test .taken) (looked (c .before .before .before .before .before .before .before .before .before .before .before .before .before .before .if1 .left) (c .before .before .before .before .before .before .before .before .before .before .before .before .read .ensures) (c .before .before .before .before .before .before .before .before .before .before .before .before .before .index .ensures) (c .before .before .before .before .before .before .before .before .before .before .before .fault .ensures)) (c .before .before .before .before .before .before .before .before .before .before .if2 .left) (c .before .before .before .before .before .before .before .before .if3 .left) (c .before .before .before .before .reach .ensures) (c .before .before .before .before .reach .kept .1 .1 .1 .1 .0)
 
 ended-requires-4 : tie.Need-ended-requires-4 Inv-loop μ-loop
 ended-requires-4 c κs = search needs
@@ -124,13 +144,14 @@ same-length-4 : tie.Need-same-length-4 Inv-loop μ-loop
 same-length-4 c =
     let l = c .before .before in
     let e = l .before .before .before .before .before in
-    (l .loop .inv (e .args .device) (e .args .sequencer) (l .before .start .ensures)) .same
+    let g = l .loop .inv (e .args .sequencer) (l .before .start .ensures) in
+    g .same
 
 returns-4 : tie.Need-returns-4 Inv-loop μ-loop
 returns-4 c =
     let l = c .before .before in
     let e = l .before .before .before .before .before in
-    let g = l .loop .inv (e .args .device) (e .args .sequencer) (l .before .start .ensures) in
+    let g = l .loop .inv (e .args .sequencer) (l .before .start .ensures) in
     spent _ g (c .before .loop-test .left) (c .ended4 .ensures)
 
 pub run-words-spec : {M : Type 1} → statement M
@@ -156,10 +177,15 @@ run-words-spec =
     ended-requires-3
     same-length-3
     returns-3
-    step-requires
+    turns-requires
+    turned-requires
     add-steps
     loop-less
     loop-again
+    reach-requires
+    add-steps-2
+    loop-less-2
+    loop-again-2
     ended-requires-4
     same-length-4
     returns-4)

@@ -1,12 +1,13 @@
--- `sequencer::running::Running::read` meets its contract. Assumes nothing.
-use native.Mathlib.Omega.{arith}
-use borrow.Author.Needs.{scaled-fits}
+-- `sequencer::running::read` meets its contract. Assumes nothing.
+use Rattle.sequencer.specs.Holds.{running}
 use mathlib.Core.Path.{ap, _∙_}
 use Rattle.device.specs.Reach.{accessed}
+use native.Mathlib.Omega.{arith}
+use borrow.Author.Needs.{scaled-fits}
 use Rattle.sequencer.proofs.EachKind.{read-out}
 use borrow.Author.Needs.{needs}
-use Rattle.sequencer.proofs.running.Running.read.Statement.{statement}
-use Rattle.sequencer.proofs.running.Running.read.Tie as tie
+use Rattle.sequencer.proofs.running.read.Statement.{statement}
+use Rattle.sequencer.proofs.running.read.Tie as tie
 
 next-applied-requires : tie.Need-next-applied-requires
 next-applied-requires c κs = search needs
@@ -21,20 +22,16 @@ taken-behind-requires : tie.Need-taken-behind-requires
 taken-behind-requires c κs = search needs
 
 mul-log : tie.Need-mul-log
-mul-log c =
-    let e = c .before .before .before .before .before .before .before .before in
-    scaled-fits _ _ 4 (e .pre .3) (e .good .1 .1 .1 .0 .1)
+mul-log c = scaled-fits _ _ 4 (c .before .before .before .before .before .before .before .before .pre .3) (c .before .before .before .before .before .before .before .before .good .1 .1 .1 .1 .0 .1)
 
 slice-write-log : tie.Need-slice-write-log
 slice-write-log c = search needs
 
-add-self : tie.Need-add-self
-add-self c =
-    let e = c .before .before .before .before .before .before .before .before in
-    omega (arith, e .pre .3, e .good .1 .1 .1 .0 .0)
+add-x : tie.Need-add-x
+add-x c = omega (arith, c .before .before .before .before .before .before .before .before .pre .3, c .before .before .before .before .before .before .before .before .good .1 .1 .1 .1 .0 .0)
 
-add-self-2 : tie.Need-add-self-2
-add-self-2 c = search needs
+add-x-2 : tie.Need-add-x-2
+add-x-2 c = search needs
 
 same-length : tie.Need-same-length
 same-length c = search needs
@@ -45,7 +42,7 @@ returns c =
     let a = t .before in
     let n = a .before .before in
     let e = n .before .before .before in
-    read-out (e .args .word) (e .args .self) (e .args .events .now) (e .args .log .now) (a .accessed .result) (t .taken-behind .result) (e .pre .2)
+    read-out (e .args .word) (running (e .args .device) (e .args .x)) (e .args .events .now) (e .args .log .now) (a .accessed .result) (t .taken-behind .result) (e .pre .2)
     (record {
       arrived = n .next-applied .result;
       applied = n .next-applied .ensures;
@@ -64,7 +61,7 @@ read-spec =
     taken-behind-requires
     mul-log
     slice-write-log
-    add-self
-    add-self-2
+    add-x
+    add-x-2
     same-length
     returns)

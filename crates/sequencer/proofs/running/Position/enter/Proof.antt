@@ -1,14 +1,15 @@
--- `sequencer::running::Running::enter` meets its contract. Assumes nothing.
+-- `sequencer::running::Position::enter` meets its contract. Assumes nothing.
+use Rattle.sequencer.specs.Holds.{running}
 use native.Mathlib.Omega.{arith}
 use Rattle.sequencer.proofs.EachKind.{entered-none, entered-pushed, room-left}
 use borrow.Author.Needs.{needs}
-use Rattle.sequencer.proofs.running.Running.enter.Statement.{statement}
-use Rattle.sequencer.proofs.running.Running.enter.Tie as tie
+use Rattle.sequencer.proofs.running.Position.enter.Statement.{statement}
+use Rattle.sequencer.proofs.running.Position.enter.Tie as tie
 
 returns : tie.Need-returns
-returns c =
+returns c = λ d.
     let e = c .before .before in
-    entered-none (e .args .word) (e .args .t1) (e .pre .1) (c .if1 .taken)
+    entered-none (e .args .word) (running d (e .args .t1)) (e .pre .1) (c .if1 .taken)
 
 mul-self : tie.Need-mul-self
 mul-self c = omega (arith, room-left _ _ (c .before .before .pre .2) (c .if1 .left))
@@ -23,9 +24,9 @@ add-self-2 : tie.Need-add-self-2
 add-self-2 c = search needs
 
 returns-2 : tie.Need-returns-2
-returns-2 c =
+returns-2 c = λ d.
     let e = c .before .before in
-    entered-pushed (e .args .word) (e .args .t1) (e .pre .1) (c .if1 .left) (room-left _ _ (e .pre .2) (c .if1 .left))
+    entered-pushed (e .args .word) (running d (e .args .t1)) (e .pre .1) (c .if1 .left) (room-left _ _ (e .pre .2) (c .if1 .left))
 
 pub enter-spec : {M : Type 1} → statement M
 enter-spec = tie.close (tie.spec returns mul-self element-write-self add-self add-self-2 returns-2)

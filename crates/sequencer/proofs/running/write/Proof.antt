@@ -1,10 +1,11 @@
--- `sequencer::running::Running::write` meets its contract. Assumes nothing.
+-- `sequencer::running::write` meets its contract. Assumes nothing.
+use Rattle.sequencer.specs.Holds.{running}
 use mathlib.Core.Path.{ap, _∙_}
 use Rattle.device.specs.Reach.{accessed}
 use Rattle.sequencer.proofs.EachKind.{wrote}
 use borrow.Author.Needs.{needs}
-use Rattle.sequencer.proofs.running.Running.write.Statement.{statement}
-use Rattle.sequencer.proofs.running.Running.write.Tie as tie
+use Rattle.sequencer.proofs.running.write.Statement.{statement}
+use Rattle.sequencer.proofs.running.write.Tie as tie
 
 next-applied-requires : tie.Need-next-applied-requires
 next-applied-requires c κs = search needs
@@ -18,8 +19,8 @@ accessed-requires c κs = search needs
 taken-behind-requires : tie.Need-taken-behind-requires
 taken-behind-requires c κs = search needs
 
-add-self : tie.Need-add-self
-add-self c = search needs
+add-x : tie.Need-add-x
+add-x c = search needs
 
 returns : tie.Need-returns
 returns c =
@@ -27,7 +28,7 @@ returns c =
     let a = t .before in
     let n = a .before .before in
     let e = n .before .before in
-    wrote (e .args .word) (e .args .self) (e .args .events .now) (a .accessed .result) (t .taken-behind .result) (e .pre .2)
+    wrote (e .args .word) (running (e .args .device) (e .args .x)) (e .args .events .now) (a .accessed .result) (t .taken-behind .result) (e .pre .2)
     (record {
       arrived = n .next-applied .result;
       applied = n .next-applied .ensures;
@@ -44,5 +45,5 @@ write-spec =
     write-of-requires
     accessed-requires
     taken-behind-requires
-    add-self
+    add-x
     returns)

@@ -1,12 +1,13 @@
--- `sequencer::running::Running::test` meets its contract. Assumes nothing.
-use Rattle.sequencer.proofs.EachKind.{test-failed, test-passed}
+-- `sequencer::running::test` meets its contract. Assumes nothing.
+use Rattle.sequencer.specs.Holds.{running}
 use mathlib.Core.Path.{ap, _∙_}
 use Rattle.device.specs.Reach.{accessed}
 use mathlib.Core.Bool.{not}
+use Rattle.sequencer.proofs.EachKind.{test-failed, test-passed}
 use borrow.Author.Tests.{eq-eqb, ne-eqb}
 use borrow.Author.Needs.{needs}
-use Rattle.sequencer.proofs.running.Running.test.Statement.{statement}
-use Rattle.sequencer.proofs.running.Running.test.Tie as tie
+use Rattle.sequencer.proofs.running.test.Statement.{statement}
+use Rattle.sequencer.proofs.running.test.Tie as tie
 
 next-applied-requires : tie.Need-next-applied-requires
 next-applied-requires c κs = search needs
@@ -26,7 +27,7 @@ returns c =
     let a = t .before in
     let n = a .before .before in
     let e = n .before .before in
-    test-failed (e .args .word) (e .args .self) (e .args .events .now) (a .accessed .result) (t .taken-behind .result) (e .pre .2)
+    test-failed (e .args .word) (running (e .args .device) (e .args .x)) (e .args .events .now) (a .accessed .result) (t .taken-behind .result) (e .pre .2)
     (record {
       arrived = n .next-applied .result;
       applied = n .next-applied .ensures;
@@ -35,8 +36,8 @@ returns c =
       left = t .taken-behind .ensures .1;
     }) (ap not (eq-eqb _ _ (c .if1 .taken)))
 
-add-self : tie.Need-add-self
-add-self c = search needs
+add-x : tie.Need-add-x
+add-x c = search needs
 
 returns-2 : tie.Need-returns-2
 returns-2 c =
@@ -44,7 +45,7 @@ returns-2 c =
     let a = t .before in
     let n = a .before .before in
     let e = n .before .before in
-    test-passed (e .args .word) (e .args .self) (e .args .events .now) (a .accessed .result) (t .taken-behind .result) (e .pre .2)
+    test-passed (e .args .word) (running (e .args .device) (e .args .x)) (e .args .events .now) (a .accessed .result) (t .taken-behind .result) (e .pre .2)
     (record {
       arrived = n .next-applied .result;
       applied = n .next-applied .ensures;
@@ -62,5 +63,5 @@ test-spec =
     accessed-requires
     taken-behind-requires
     returns
-    add-self
+    add-x
     returns-2)

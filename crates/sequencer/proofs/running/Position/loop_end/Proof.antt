@@ -1,8 +1,9 @@
--- `sequencer::running::Running::loop_end` meets its contract. Assumes nothing.
+-- `sequencer::running::Position::loop_end` meets its contract. Assumes nothing.
+use Rattle.sequencer.specs.Holds.{running}
 use Rattle.sequencer.proofs.EachKind.{loop-over, loop-again}
 use borrow.Author.Needs.{needs}
-use Rattle.sequencer.proofs.running.Running.loop_end.Statement.{statement}
-use Rattle.sequencer.proofs.running.Running.loop_end.Tie as tie
+use Rattle.sequencer.proofs.running.Position.loop_end.Statement.{statement}
+use Rattle.sequencer.proofs.running.Position.loop_end.Tie as tie
 
 sub-top : tie.Need-sub-top
 sub-top c = search needs
@@ -23,9 +24,9 @@ add-self : tie.Need-add-self
 add-self c = search needs
 
 returns : tie.Need-returns
-returns c =
+returns c = λ d.
     let e = c .before .before in
-    loop-over (e .args .word) (e .args .t1) (e .pre .1) (e .pre .2) (c .if1 .taken)
+    loop-over (e .args .word) (running d (e .args .t1)) (e .pre .1) (e .pre .2) (c .if1 .taken)
 
 sub-self : tie.Need-sub-self
 sub-self c = search needs
@@ -37,9 +38,9 @@ element-write-self-2 : tie.Need-element-write-self-2
 element-write-self-2 c = search needs
 
 returns-2 : tie.Need-returns-2
-returns-2 c =
+returns-2 c = λ d.
     let e = c .before .before in
-    loop-again (e .args .word) (e .args .t1) (e .pre .1) (e .pre .2) (c .if1 .left)
+    loop-again (e .args .word) (running d (e .args .t1)) (e .pre .1) (e .pre .2) (c .if1 .left)
 
 pub loop-end-spec : {M : Type 1} → statement M
 loop-end-spec =

@@ -1,0 +1,12 @@
+-- `sequencer::running::Position::jump` meets its contract. Assumes nothing.
+use Rattle.sequencer.specs.Holds.{running}
+use Rattle.sequencer.proofs.EachKind.{jumped}
+use Rattle.sequencer.proofs.running.Position.jump.Statement.{statement}
+use Rattle.sequencer.proofs.running.Position.jump.Tie as tie
+
+returns : tie.Need-returns
+returns c = λ d.
+    jumped (c .args .word) (running d (c .args .self)) (c .pre)
+
+pub jump-spec : {M : Type 1} → statement M
+jump-spec = tie.close (tie.spec returns)
