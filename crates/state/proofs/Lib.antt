@@ -1,2 +1,3 @@
-pub mod Slices
+pub mod Copy
 pub mod RoundTrip
+pub mod Slices

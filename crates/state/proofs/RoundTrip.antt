@@ -1,8 +1,8 @@
 -- A state that is saved and loaded is the device again, and bytes that a device can hold are saved as they were loaded.
 -- A field of two or four bytes comes back if it fits them, a list if it is as long as its part. Assumes nothing.
 use Prim.Native.Nat.{ℕ, zero, suc, _+_, _*_, _/_, _%_, _<_}
-use mathlib.Core.Path.{_≡_, refl, ap, sym, _∙_}
-use mathlib.Core.Bool.{Bool, true, false, _&&_}
+use mathlib.Core.Path.{_≡_, refl, ap, _∙_}
+use mathlib.Core.Bool.{Bool, true, false}
 use mathlib.Core.List.{List, [], _∷_, _++_}
 use lib.Dec.{eqb, ltb}
 use lib.ListN.{getD, length}
@@ -11,11 +11,11 @@ use borrow.Author.Tests.{eq-eqb, eqb-true, ltb-true}
 use Rattle.config.specs.declared.key.Key.{Key}
 use Rattle.device.specs.declared.Device.{Device}
 use Rattle.mask.proofs.Every.{all-at, and-left, and-right}
-use Rattle.mask.specs.Every.{allBelow}
 use Rattle.monitor.specs.declared.Monitor.{Monitor}
 use Rattle.state.specs.State.{
   acpiAt,
   acpiBytes,
+  areZero,
   bit,
   configAt,
   configBytes,
@@ -131,7 +131,8 @@ module _ (d : Device) (t : Typed d) where
   unfolding stateBytes acpiBytes
   maps-back =
       let m = d .acpi .maps in
-      let b : (k : ℕ) → pair (low (getD m k 0)) (high (getD m k 0)) ≡ getD m k 0 = λ k. word-back (getD m k 0) (t .map k) in
+      let b : (k : ℕ) → pair (low (getD m k 0)) (high (getD m k 0)) ≡ getD m k 0 =
+      λ k. word-back (getD m k 0) (t .map k) in
       rw (b 0, b 1, b 2, b 3, b 4, b 5, b 6, b 7) (run-whole 0 8 m (t .maps))
 
   levels-back : flagsFrom 8 98 (stateBytes d) ≡ d .acpi .levels
@@ -182,7 +183,7 @@ tested bs h0 =
     let h1 = and-right (isFlag bs 0) _ h0 in
     let h2 = and-right (eqb (getD bs 43 0) 0x44) _ h1 in
     let h3 = and-right (eqb (getD bs 44 0) 0x40) _ h2 in
-    let h4 = and-right (allBelow 5 (λ k. eqb (getD bs (51 + k) 0) 0)) _ h3 in
+    let h4 = and-right (areZero bs) _ h3 in
     let h5 = and-right (isFlag bs 63) _ h4 in
     record {
       unlocked = and-left (isFlag bs 0) _ h0;
@@ -190,7 +191,7 @@ tested bs h0 =
       register6F = eqb-true (getD bs 44 0) 0x40 (and-left (eqb (getD bs 44 0) 0x40) _ h2);
       register84 =
           λ k l. eqb-true (getD bs (51 + k) 0) 0
-          (all-at 5 (λ k. eqb (getD bs (51 + k) 0) 0) (and-left (allBelow 5 (λ k. eqb (getD bs (51 + k) 0) 0)) _ h3) k l);
+          (all-at 5 (λ k. eqb (getD bs (51 + k) 0) 0) (and-left (areZero bs) _ h3) k l);
       scien = and-left (isFlag bs 63) _ h4;
       sleeping = and-left (isFlag bs 70) _ h5;
       level = all-at 8 (λ k. isFlag bs (98 + k)) (and-right (isFlag bs 70) _ h5);

@@ -1,7 +1,7 @@
 -- A slice of 106 bytes takes a state whole and is read whole; one of another length does neither. Assumes nothing.
 use Prim.Native.Nat.{ℕ, _+_, _≤_}
-use mathlib.Core.Path.{_≡_, refl, ap, sym, _∙_}
-use mathlib.Core.List.{List, [], _++_, append-nil}
+use mathlib.Core.Path.{_≡_, ap, sym, _∙_}
+use mathlib.Core.List.{List, [], append-nil}
 use lib.ListN.{drop, drop-of-length-le, length}
 use lib.Seq.{paste, take-length}
 use borrow.Author.Tests.{eq-eqb, ne-eqb}

@@ -48,40 +48,11 @@ pub fn key(key: Key) -> [u8; 32]
     ensures { λ r. ⌜ r ≡ keyBytes key ⌝ }
 {
     let bytes = key.bytes;
-    [
-        bytes[0],
-        bytes[1],
-        bytes[2],
-        bytes[3],
-        bytes[4],
-        bytes[5],
-        bytes[6],
-        bytes[7],
-        bytes[8],
-        bytes[9],
-        bytes[10],
-        bytes[11],
-        bytes[12],
-        bytes[13],
-        bytes[14],
-        bytes[15],
-        bytes[16],
-        bytes[17],
-        bytes[18],
-        bytes[19],
-        bytes[20],
-        bytes[21],
-        bytes[22],
-        bytes[23],
-        bytes[24],
-        bytes[25],
-        bytes[26],
-        bytes[27],
-        bytes[28],
-        bytes[29],
-        bytes[30],
-        bytes[31],
-    ]
+    let mut part = [0u8; 32];
+    for k in 0..32 {
+        part[k] = bytes[k];
+    }
+    part
 }
 
 // The index, and all nineteen registers: those that cannot change are at their reset.
@@ -140,23 +111,31 @@ fn maps(acpi: Acpi) -> [u8; 16]
     ensures { λ r. ⌜ r ≡ mapBytes acpi ⌝ }
 {
     let maps = acpi.maps;
+    let map0 = maps[0];
+    let map1 = maps[1];
+    let map2 = maps[2];
+    let map3 = maps[3];
+    let map4 = maps[4];
+    let map5 = maps[5];
+    let map6 = maps[6];
+    let map7 = maps[7];
     [
-        (maps[0] % 256) as u8,
-        (maps[0] / 256 % 256) as u8,
-        (maps[1] % 256) as u8,
-        (maps[1] / 256 % 256) as u8,
-        (maps[2] % 256) as u8,
-        (maps[2] / 256 % 256) as u8,
-        (maps[3] % 256) as u8,
-        (maps[3] / 256 % 256) as u8,
-        (maps[4] % 256) as u8,
-        (maps[4] / 256 % 256) as u8,
-        (maps[5] % 256) as u8,
-        (maps[5] / 256 % 256) as u8,
-        (maps[6] % 256) as u8,
-        (maps[6] / 256 % 256) as u8,
-        (maps[7] % 256) as u8,
-        (maps[7] / 256 % 256) as u8,
+        (map0 % 256) as u8,
+        (map0 / 256 % 256) as u8,
+        (map1 % 256) as u8,
+        (map1 / 256 % 256) as u8,
+        (map2 % 256) as u8,
+        (map2 / 256 % 256) as u8,
+        (map3 % 256) as u8,
+        (map3 / 256 % 256) as u8,
+        (map4 % 256) as u8,
+        (map4 / 256 % 256) as u8,
+        (map5 % 256) as u8,
+        (map5 / 256 % 256) as u8,
+        (map6 % 256) as u8,
+        (map6 / 256 % 256) as u8,
+        (map7 % 256) as u8,
+        (map7 / 256 % 256) as u8,
     ]
 }
 
