@@ -12,9 +12,9 @@ ghost use Rattle.state.specs.State.{
   keyBytes,
   monitorBytes,
   registerBytes,
-  mapBytes,
+  wordBytes,
   timerBytes,
-  levelBytes,
+  flagBytes,
   acpiBytes,
 };
 
@@ -107,10 +107,9 @@ fn registers(acpi: Acpi) -> [u8; 16]
     ]
 }
 
-fn maps(acpi: Acpi) -> [u8; 16]
-    ensures { λ r. ⌜ r ≡ mapBytes acpi ⌝ }
+fn maps(maps: [u16; 8]) -> [u8; 16]
+    ensures { λ r. ⌜ r ≡ wordBytes 8 0 maps ⌝ }
 {
-    let maps = acpi.maps;
     let map0 = maps[0];
     let map1 = maps[1];
     let map2 = maps[2];
@@ -152,10 +151,9 @@ fn timer(acpi: Acpi) -> [u8; 5]
     ]
 }
 
-fn levels(acpi: Acpi) -> [u8; 8]
-    ensures { λ r. ⌜ r ≡ levelBytes acpi ⌝ }
+fn levels(levels: [bool; 8]) -> [u8; 8]
+    ensures { λ r. ⌜ r ≡ flagBytes 8 0 levels ⌝ }
 {
-    let levels = acpi.levels;
     [
         levels[0] as u8,
         levels[1] as u8,
@@ -171,10 +169,12 @@ fn levels(acpi: Acpi) -> [u8; 8]
 pub fn acpi(acpi: Acpi) -> [u8; 45]
     ensures { λ r. ⌜ r ≡ acpiBytes acpi ⌝ }
 {
+    let words = acpi.maps;
+    let flags = acpi.levels;
     let mut bytes = [0u8; 45];
     put(&mut bytes, 0, &registers(acpi));
-    put(&mut bytes, 16, &maps(acpi));
+    put(&mut bytes, 16, &maps(words));
     put(&mut bytes, 32, &timer(acpi));
-    put(&mut bytes, 37, &levels(acpi));
+    put(&mut bytes, 37, &levels(flags));
     bytes
 }
