@@ -1,1 +1,3 @@
+pub mod Copy
+pub mod RoundTrip
 pub mod Slices

@@ -1,18 +1,15 @@
 -- A slice of 106 bytes takes a state whole and is read whole; one of another length does neither. Assumes nothing.
 use Prim.Native.Nat.{ℕ, _+_, _≤_}
-use mathlib.Core.Path.{_≡_, refl, ap, sym, _∙_}
-use mathlib.Core.List.{List, [], _++_, append-nil}
+use mathlib.Core.Path.{_≡_, ap, sym, _∙_}
+use mathlib.Core.List.{List, [], append-nil}
 use lib.ListN.{drop, drop-of-length-le, length}
 use lib.Seq.{paste, take-length}
 use borrow.Author.Tests.{eq-eqb, ne-eqb}
 use native.Mathlib.Omega.{arith}
 use Rattle.device.specs.declared.Device.{Device}
-use Rattle.state.specs.State.{acpiBytes, loaded, loadedFrom, refused, saved, stateBytes}
+use Rattle.state.proofs.RoundTrip.{state-length}
+use Rattle.state.specs.State.{loaded, loadedFrom, refused, saved, stateBytes}
 use Rattle.state.specs.declared.Loaded.{Loaded}
-
-pub state-length : (d : Device) → length (stateBytes d) ≡ 106
-unfolding stateBytes acpiBytes
-state-length d = refl
 
 -- a part as long as the list that it is put into takes the place of all of it
 pub whole : (lent part : List ℕ) → length part ≡ length lent → paste lent 0 part (length part) ≡ part

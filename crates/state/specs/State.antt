@@ -53,7 +53,8 @@ keyBytes k = from 32 0 (k .bytes)
 abbrev pub monitorBytes : Monitor → List ℕ
 monitorBytes m =
     m .index ∷ getD (m .registers) 0 0 ∷ 0x44 ∷ 0x40 ∷ getD (m .registers) 1 0 ∷ getD (m .registers) 2 0
-    ∷ getD (m .registers) 3 0 ∷ getD (m .registers) 4 0 ∷ getD (m .registers) 5 0 ∷ getD (m .registers) 6 0 ∷ 0 ∷ 0 ∷ 0 ∷ 0 ∷ 0
+    ∷ getD (m .registers) 3 0 ∷ getD (m .registers) 4 0 ∷ getD (m .registers) 5 0 ∷ getD (m .registers) 6 0
+    ∷ 0 ∷ 0 ∷ 0 ∷ 0 ∷ 0
     ∷ getD (m .registers) 7 0 ∷ getD (m .registers) 8 0 ∷ getD (m .registers) 9 0 ∷ getD (m .registers) 10 0
     ∷ getD (m .registers) 11 0 ∷ []
 
@@ -148,14 +149,21 @@ deviceAt bytes = record { config = configAt bytes; key = keyAt bytes; monitor = 
 abbrev pub isFlag : List ℕ → ℕ → Bool
 isFlag bytes at = ltb (getD bytes at 0) 2
 
+-- 84h to 88h
+abbrev pub areZero : List ℕ → Bool
+areZero bytes = allBelow 5 (λ k. eqb (getD bytes (51 + k) 0) 0)
+
+-- the levels of the pins
+abbrev pub areFlags : List ℕ → Bool
+areFlags bytes = allBelow 8 (λ k. isFlag bytes (98 + k))
+
 -- flags are 0 or 1; 6Eh, 6Fh and 84h to 88h are at their reset
 abbrev pub isHeld : List ℕ → Bool
 isHeld bytes =
     isFlag bytes 0
     && (eqb (getD bytes 43 0) 0x44
     && (eqb (getD bytes 44 0) 0x40
-    && (allBelow 5 (λ k. eqb (getD bytes (51 + k) 0) 0)
-    && (isFlag bytes 63 && (isFlag bytes 70 && allBelow 8 (λ k. isFlag bytes (98 + k)))))))
+    && (areZero bytes && (isFlag bytes 63 && (isFlag bytes 70 && areFlags bytes)))))
 
 unfoldable pub loadedFrom : List ℕ → Loaded
 loadedFrom bytes = record { valid = isHeld bytes; device = deviceAt bytes }

@@ -14,6 +14,8 @@ ghost use Rattle.state.specs.State.{
   wordsFrom,
   flagsFrom,
   acpiAt,
+  areZero,
+  areFlags,
   isHeld,
 };
 
@@ -60,42 +62,11 @@ pub fn config(bytes: &[u8; 106]) -> Config
 pub fn key(bytes: &[u8; 106]) -> Key
     ensures { λ r. ⌜ r ≡ keyAt (now (bytes .entry)) ⌝ }
 {
-    Key {
-        bytes: [
-            bytes[9],
-            bytes[10],
-            bytes[11],
-            bytes[12],
-            bytes[13],
-            bytes[14],
-            bytes[15],
-            bytes[16],
-            bytes[17],
-            bytes[18],
-            bytes[19],
-            bytes[20],
-            bytes[21],
-            bytes[22],
-            bytes[23],
-            bytes[24],
-            bytes[25],
-            bytes[26],
-            bytes[27],
-            bytes[28],
-            bytes[29],
-            bytes[30],
-            bytes[31],
-            bytes[32],
-            bytes[33],
-            bytes[34],
-            bytes[35],
-            bytes[36],
-            bytes[37],
-            bytes[38],
-            bytes[39],
-            bytes[40],
-        ],
+    let mut key = [0u8; 32];
+    for k in 0..32 {
+        key[k] = bytes[9 + k];
     }
+    Key { bytes: key }
 }
 
 pub fn monitor(bytes: &[u8; 106]) -> Monitor
@@ -173,23 +144,32 @@ pub fn acpi(bytes: &[u8; 106]) -> Acpi
     }
 }
 
-// The flags are 0 or 1, and the read-only monitor registers 6Eh, 6Fh and 84h to 88h at their reset.
-pub fn is_held(bytes: &[u8; 106]) -> bool
-    ensures { λ r. ⌜ r ≡ isHeld (now (bytes .entry)) ⌝ }
+// The read-only monitor registers 84h to 88h.
+fn are_zero(bytes: &[u8; 106]) -> bool
+    ensures { λ r. ⌜ r ≡ areZero (now (bytes .entry)) ⌝ }
 {
-    let zero = (bytes[51] == 0)
-        & (bytes[52] == 0)
-        & (bytes[53] == 0)
-        & (bytes[54] == 0)
-        & (bytes[55] == 0);
-    let levels = (bytes[98] < 2)
+    (bytes[51] == 0) & (bytes[52] == 0) & (bytes[53] == 0) & (bytes[54] == 0) & (bytes[55] == 0)
+}
+
+fn are_flags(bytes: &[u8; 106]) -> bool
+    ensures { λ r. ⌜ r ≡ areFlags (now (bytes .entry)) ⌝ }
+{
+    (bytes[98] < 2)
         & (bytes[99] < 2)
         & (bytes[100] < 2)
         & (bytes[101] < 2)
         & (bytes[102] < 2)
         & (bytes[103] < 2)
         & (bytes[104] < 2)
-        & (bytes[105] < 2);
+        & (bytes[105] < 2)
+}
+
+// The flags are 0 or 1, and the read-only monitor registers 6Eh, 6Fh and 84h to 88h at their reset.
+pub fn is_held(bytes: &[u8; 106]) -> bool
+    ensures { λ r. ⌜ r ≡ isHeld (now (bytes .entry)) ⌝ }
+{
+    let zero = are_zero(bytes);
+    let levels = are_flags(bytes);
     (bytes[0] < 2)
         & ((bytes[43] == 0x44)
             & ((bytes[44] == 0x40) & (zero & ((bytes[63] < 2) & ((bytes[70] < 2) & levels)))))

@@ -12,9 +12,9 @@ ghost use Rattle.state.specs.State.{
   keyBytes,
   monitorBytes,
   registerBytes,
-  mapBytes,
+  wordBytes,
   timerBytes,
-  levelBytes,
+  flagBytes,
   acpiBytes,
 };
 
@@ -48,40 +48,11 @@ pub fn key(key: Key) -> [u8; 32]
     ensures { λ r. ⌜ r ≡ keyBytes key ⌝ }
 {
     let bytes = key.bytes;
-    [
-        bytes[0],
-        bytes[1],
-        bytes[2],
-        bytes[3],
-        bytes[4],
-        bytes[5],
-        bytes[6],
-        bytes[7],
-        bytes[8],
-        bytes[9],
-        bytes[10],
-        bytes[11],
-        bytes[12],
-        bytes[13],
-        bytes[14],
-        bytes[15],
-        bytes[16],
-        bytes[17],
-        bytes[18],
-        bytes[19],
-        bytes[20],
-        bytes[21],
-        bytes[22],
-        bytes[23],
-        bytes[24],
-        bytes[25],
-        bytes[26],
-        bytes[27],
-        bytes[28],
-        bytes[29],
-        bytes[30],
-        bytes[31],
-    ]
+    let mut part = [0u8; 32];
+    for k in 0..32 {
+        part[k] = bytes[k];
+    }
+    part
 }
 
 // The index, and all nineteen registers: those that cannot change are at their reset.
@@ -136,27 +107,34 @@ fn registers(acpi: Acpi) -> [u8; 16]
     ]
 }
 
-fn maps(acpi: Acpi) -> [u8; 16]
-    ensures { λ r. ⌜ r ≡ mapBytes acpi ⌝ }
+fn maps(maps: [u16; 8]) -> [u8; 16]
+    ensures { λ r. ⌜ r ≡ wordBytes 8 0 maps ⌝ }
 {
-    let maps = acpi.maps;
+    let map0 = maps[0];
+    let map1 = maps[1];
+    let map2 = maps[2];
+    let map3 = maps[3];
+    let map4 = maps[4];
+    let map5 = maps[5];
+    let map6 = maps[6];
+    let map7 = maps[7];
     [
-        (maps[0] % 256) as u8,
-        (maps[0] / 256 % 256) as u8,
-        (maps[1] % 256) as u8,
-        (maps[1] / 256 % 256) as u8,
-        (maps[2] % 256) as u8,
-        (maps[2] / 256 % 256) as u8,
-        (maps[3] % 256) as u8,
-        (maps[3] / 256 % 256) as u8,
-        (maps[4] % 256) as u8,
-        (maps[4] / 256 % 256) as u8,
-        (maps[5] % 256) as u8,
-        (maps[5] / 256 % 256) as u8,
-        (maps[6] % 256) as u8,
-        (maps[6] / 256 % 256) as u8,
-        (maps[7] % 256) as u8,
-        (maps[7] / 256 % 256) as u8,
+        (map0 % 256) as u8,
+        (map0 / 256 % 256) as u8,
+        (map1 % 256) as u8,
+        (map1 / 256 % 256) as u8,
+        (map2 % 256) as u8,
+        (map2 / 256 % 256) as u8,
+        (map3 % 256) as u8,
+        (map3 / 256 % 256) as u8,
+        (map4 % 256) as u8,
+        (map4 / 256 % 256) as u8,
+        (map5 % 256) as u8,
+        (map5 / 256 % 256) as u8,
+        (map6 % 256) as u8,
+        (map6 / 256 % 256) as u8,
+        (map7 % 256) as u8,
+        (map7 / 256 % 256) as u8,
     ]
 }
 
@@ -173,10 +151,9 @@ fn timer(acpi: Acpi) -> [u8; 5]
     ]
 }
 
-fn levels(acpi: Acpi) -> [u8; 8]
-    ensures { λ r. ⌜ r ≡ levelBytes acpi ⌝ }
+fn levels(levels: [bool; 8]) -> [u8; 8]
+    ensures { λ r. ⌜ r ≡ flagBytes 8 0 levels ⌝ }
 {
-    let levels = acpi.levels;
     [
         levels[0] as u8,
         levels[1] as u8,
@@ -192,10 +169,12 @@ fn levels(acpi: Acpi) -> [u8; 8]
 pub fn acpi(acpi: Acpi) -> [u8; 45]
     ensures { λ r. ⌜ r ≡ acpiBytes acpi ⌝ }
 {
+    let words = acpi.maps;
+    let flags = acpi.levels;
     let mut bytes = [0u8; 45];
     put(&mut bytes, 0, &registers(acpi));
-    put(&mut bytes, 16, &maps(acpi));
+    put(&mut bytes, 16, &maps(words));
     put(&mut bytes, 32, &timer(acpi));
-    put(&mut bytes, 37, &levels(acpi));
+    put(&mut bytes, 37, &levels(flags));
     bytes
 }

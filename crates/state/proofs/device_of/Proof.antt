@@ -21,7 +21,13 @@ is-held-requires c κs = search needs
 
 returns : tie.Need-returns
 unfolding loadedFrom
-returns c = rw (c .before .before .before .before .config .ensures, c .before .before .before .key .ensures, c .before .before .monitor .ensures, c .before .acpi .ensures, c .is-held .ensures)
+returns c = rw (
+  c .before .before .before .before .config .ensures,
+  c .before .before .before .key .ensures,
+  c .before .before .monitor .ensures,
+  c .before .acpi .ensures,
+  c .is-held .ensures,
+)
 
 pub device-of-spec : {M : Type 1} → statement M
 device-of-spec =

@@ -21,7 +21,11 @@ device-of-requires : tie.Need-device-of-requires
 device-of-requires c κs = search needs
 
 returns-2 : tie.Need-returns-2
-returns-2 c = loaded-whole (c .before .before .before .before .before .before .before .args .bytes .now) _ _ _ (c .before .before .before .before .before .if1 .left) refl (c .before .before .before .put .ensures) (c .device-of .ensures)
+returns-2 c =
+    let bytes = c .before .before .before .before .before .before .before .args .bytes .now in
+    loaded-whole bytes _ _ _ (c .before .before .before .before .before .if1 .left) refl
+    (c .before .before .before .put .ensures)
+    (c .device-of .ensures)
 
 pub load-spec : {M : Type 1} → statement M
 load-spec =

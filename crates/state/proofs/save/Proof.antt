@@ -17,7 +17,10 @@ same-length : tie.Need-same-length
 same-length c = search needs
 
 returns : tie.Need-returns
-returns c = saved-whole (c .before .before .before .before .before .before .before .before .args .device) (c .before .before .before .before .before .before .before .before .args .bytes .now) _ (c .before .before .before .before .before .before .if1 .taken) (rw (c .before .before .before .before .bytes-of .ensures) at (c .before .before .put .ensures))
+returns c =
+    let args = c .before .before .before .before .before .before .before .before .args in
+    saved-whole (args .device) (args .bytes .now) _ (c .before .before .before .before .before .before .if1 .taken)
+    (rw (c .before .before .before .before .bytes-of .ensures) at (c .before .before .put .ensures))
 
 returns-2 : tie.Need-returns-2
 returns-2 c = saved-not (c .before .before .args .device) (c .before .before .args .bytes .now) (c .if1 .left)

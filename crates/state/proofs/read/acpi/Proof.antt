@@ -48,7 +48,17 @@ long-requires c κs = search needs
 
 returns : tie.Need-returns
 unfolding acpiAt
-returns c = rw (c .before .before .before .before .before .before .before .before .before .before .before .before .before .maps .ensures, c .before .before .before .before .before .before .before .before .before .before .before .before .levels .ensures, c .before .before .before .before .before .before .before .before .word .ensures, c .before .before .before .before .before .before .before .word2 .ensures, c .before .before .before .before .before .before .word3 .ensures, c .before .before .before .before .word4 .ensures, c .before .before .before .word5 .ensures, c .before .before .word6 .ensures, c .long .ensures)
+returns c = rw (
+  c .before .before .before .before .before .before .before .before .before .before .before .before .before .maps .ensures,
+  c .before .before .before .before .before .before .before .before .before .before .before .before .levels .ensures,
+  c .before .before .before .before .before .before .before .before .word .ensures,
+  c .before .before .before .before .before .before .before .word2 .ensures,
+  c .before .before .before .before .before .before .word3 .ensures,
+  c .before .before .before .before .word4 .ensures,
+  c .before .before .before .word5 .ensures,
+  c .before .before .word6 .ensures,
+  c .long .ensures,
+)
 
 pub acpi-spec : {M : Type 1} → statement M
 acpi-spec =

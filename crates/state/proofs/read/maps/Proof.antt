@@ -28,7 +28,16 @@ word-requires-8 : tie.Need-word-requires-8
 word-requires-8 c κs = search needs
 
 returns : tie.Need-returns
-returns c = rw (c .before .before .before .before .before .before .before .word .ensures, c .before .before .before .before .before .before .word2 .ensures, c .before .before .before .before .before .word3 .ensures, c .before .before .before .before .word4 .ensures, c .before .before .before .word5 .ensures, c .before .before .word6 .ensures, c .before .word7 .ensures, c .word8 .ensures)
+returns c = rw (
+  c .before .before .before .before .before .before .before .word .ensures,
+  c .before .before .before .before .before .before .word2 .ensures,
+  c .before .before .before .before .before .word3 .ensures,
+  c .before .before .before .before .word4 .ensures,
+  c .before .before .before .word5 .ensures,
+  c .before .before .word6 .ensures,
+  c .before .word7 .ensures,
+  c .word8 .ensures,
+)
 
 pub maps-spec : {M : Type 1} → statement M
 maps-spec =
