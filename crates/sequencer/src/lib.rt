@@ -6,7 +6,7 @@ use crate::running::Position;
 use device::Device;
 ghost use mathlib.Core.Path.{_≡_};
 ghost use mathlib.Core.Bool.{true};
-ghost use Prim.Native.Nat.{_≤_};
+ghost use Prim.Native.Nat.{_+_, _<_, _≤_};
 ghost use lib.ListN.{length};
 ghost use Rattle.sequencer.specs.Sequencer.{freshSequencer, counterInRange, sequencerInRange};
 ghost use Rattle.sequencer.specs.Run.{
@@ -214,6 +214,14 @@ fn index(place: u32) -> usize
     place as usize
 }
 
+// One word executed.
+fn counted(steps: u32) -> u32
+    requires { ⌜ steps < 4294967295 ⌝ }
+    ensures { λ r. ⌜ r ≡ steps + 1 ⌝ }
+{
+    steps + 1
+}
+
 // Runs the words of an image until the run ends.
 fn run_words(
     image: &[u8],
@@ -244,12 +252,12 @@ fn run_words(
         }
         if word::turns(word) {
             x = x.turned(word);
-            steps = steps + 1;
+            steps = counted(steps);
         } else {
             let moved = running::reach(chip, x, word, events, log);
             chip = moved.device;
             x = moved.position;
-            steps = steps + 1;
+            steps = counted(steps);
         }
     }
     ended(BUDGET_SPENT, steps, chip, x)

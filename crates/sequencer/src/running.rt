@@ -185,10 +185,10 @@ fn test(device: Device, mut x: Position, word: Record, events: &[u32]) -> Moved
 {
     let applied = next_applied(device, events, x.taken);
     let reached = applied.accessed(read_of(word));
-    let taken = taken_behind(events, x.taken);
+    let after = taken_behind(events, x.taken);
     let next = reached.device;
     let answer = reached.answer;
-    x.taken = taken;
+    x.taken = after;
     if answer.value & word.value == 0 {
         x.place = word.target;
         return Moved {

@@ -108,15 +108,16 @@ turned-requires c κs =
     let g = l .loop .inv (e .args .sequencer) (l .before .start .ensures) in
     (omega (arith, c .before .before .before .before .before .before .before .before .if1 .left, e .pre .0), can-turn _ _ (l .loop .x) (c .before .before .before .before .before .before .read .result) z (omega (arith, g .holds .used, g .holds .few)) t)
 
-add-steps : tie.Need-add-steps Inv-loop μ-loop
-add-steps c = omega (arith, c .before .before .before .before .before .before .before .before .before .before .before .loop-test .taken, c .before .before .before .before .before .before .before .before .before .before .before .before .before .before .before .before .before .fits .budget)
+counted-requires : tie.Need-counted-requires Inv-loop μ-loop
+counted-requires c κs = omega (arith, c .before .before .before .before .before .before .before .before .before .before .before .loop-test .taken, c .before .before .before .before .before .before .before .before .before .before .before .before .before .before .before .before .before .fits .budget)
 
 loop-less : tie.Need-loop-less Inv-loop μ-loop
-loop-less c = omega arith
+loop-less c = omega (arith, c .counted .ensures, c .before .before .before .before .before .before .before .before .before .before .before .before .loop-test .taken)
 
 loop-again : tie.Need-loop-again Inv-loop μ-loop
 loop-again c = λ s h.
-    further _ _ (c .before .before .before .before .before .before .before .before .before .before .before .before .loop .inv s h) (c .before .before .before .before .before .before .before .before .before .before .before .loop-test .taken) (looked (c .before .before .before .before .before .before .before .before .before .if1 .left) (c .before .before .before .before .before .before .before .read .ensures) (c .before .before .before .before .before .before .before .before .index .ensures) (c .before .before .before .before .before .before .fault .ensures)) (c .before .before .before .before .before .if2 .left) (c .before .before .before .if3 .left) (c .turned .ensures _ _ _) refl
+    rw (c .counted .ensures)
+    (further _ _ (c .before .before .before .before .before .before .before .before .before .before .before .before .before .loop .inv s h) (c .before .before .before .before .before .before .before .before .before .before .before .before .loop-test .taken) (looked (c .before .before .before .before .before .before .before .before .before .before .if1 .left) (c .before .before .before .before .before .before .before .before .read .ensures) (c .before .before .before .before .before .before .before .before .before .index .ensures) (c .before .before .before .before .before .before .before .fault .ensures)) (c .before .before .before .before .before .before .if2 .left) (c .before .before .before .before .if3 .left) (c .before .turned .ensures _ _ _) refl)
 
 reach-requires : tie.Need-reach-requires Inv-loop μ-loop
 reach-requires c κs =
@@ -127,15 +128,16 @@ reach-requires c κs =
     let g = l .loop .inv (e .args .sequencer) (l .before .start .ensures) in
     (omega (arith, c .before .before .before .before .before .before .before .before .before .if1 .left, e .pre .0), g .holds .inside, can-reach _ (l .loop .x) (c .before .before .before .before .before .before .before .read .result) (l .loop .log) z t (c .before .before .before .if3 .left))
 
-add-steps-2 : tie.Need-add-steps-2 Inv-loop μ-loop
-add-steps-2 c = omega (arith, c .before .before .before .before .before .before .before .before .before .before .before .before .before .before .before .before .loop-test .taken, c .before .before .before .before .before .before .before .before .before .before .before .before .before .before .before .before .before .before .before .before .before .before .fits .budget)
+counted-requires-2 : tie.Need-counted-requires-2 Inv-loop μ-loop
+counted-requires-2 c κs = omega (arith, c .before .before .before .before .before .before .before .before .before .before .before .before .before .before .before .before .loop-test .taken, c .before .before .before .before .before .before .before .before .before .before .before .before .before .before .before .before .before .before .before .before .before .before .fits .budget)
 
 loop-less-2 : tie.Need-loop-less-2 Inv-loop μ-loop
-loop-less-2 c = omega (arith, c .before .before .before .before .before .before .before .before .before .before .before .before .before .before .before .before .loop-test .taken)
+loop-less-2 c = omega (arith, c .counted2 .ensures, c .before .before .before .before .before .before .before .before .before .before .before .before .before .before .before .before .before .loop-test .taken)
 
 loop-again-2 : tie.Need-loop-again-2 Inv-loop μ-loop
 loop-again-2 c = λ s h.
-    further _ _ (c .before .before .before .before .before .before .before .before .before .before .before .before .before .before .before .before .before .loop .inv s h) (c .before .before .before .before .before .before .before .before .before .before .before .before .before .before .before .before .loop-test .taken) (looked (c .before .before .before .before .before .before .before .before .before .before .before .before .before .before .if1 .left) (c .before .before .before .before .before .before .before .before .before .before .before .before .read .ensures) (c .before .before .before .before .before .before .before .before .before .before .before .before .before .index .ensures) (c .before .before .before .before .before .before .before .before .before .before .before .fault .ensures)) (c .before .before .before .before .before .before .before .before .before .before .if2 .left) (c .before .before .before .before .before .before .before .before .if3 .left) (c .before .before .before .before .reach .ensures) (c .before .before .before .before .reach .kept .1 .1 .1 .1 .0)
+    rw (c .counted2 .ensures)
+    (further _ _ (c .before .before .before .before .before .before .before .before .before .before .before .before .before .before .before .before .before .before .loop .inv s h) (c .before .before .before .before .before .before .before .before .before .before .before .before .before .before .before .before .before .loop-test .taken) (looked (c .before .before .before .before .before .before .before .before .before .before .before .before .before .before .before .if1 .left) (c .before .before .before .before .before .before .before .before .before .before .before .before .before .read .ensures) (c .before .before .before .before .before .before .before .before .before .before .before .before .before .before .index .ensures) (c .before .before .before .before .before .before .before .before .before .before .before .before .fault .ensures)) (c .before .before .before .before .before .before .before .before .before .before .before .if2 .left) (c .before .before .before .before .before .before .before .before .before .if3 .left) (c .before .before .before .before .before .reach .ensures) (c .before .before .before .before .before .reach .kept .1 .1 .1 .1 .0))
 
 ended-requires-4 : tie.Need-ended-requires-4 Inv-loop μ-loop
 ended-requires-4 c κs = search needs
@@ -179,11 +181,11 @@ run-words-spec =
     returns-3
     turns-requires
     turned-requires
-    add-steps
+    counted-requires
     loop-less
     loop-again
     reach-requires
-    add-steps-2
+    counted-requires-2
     loop-less-2
     loop-again-2
     ended-requires-4
