@@ -178,3 +178,14 @@ laid-in-range place cs few h =
     pick k (no m) =
         let l : length cs ≤ k = omega (arith, m) in
         rw (le-ltb k (length cs) l, rest-at cs k l)
+
+-- ---- a stopped state gone on with: the counters that a run hands back are those that the next one starts from
+stack-laid : (cs rest : List ℕ) → stackOf (length cs) (laidOn cs rest) ≡ cs
+stack-laid [] rest = refl
+stack-laid (c ∷ cs) rest =
+    let e : length cs + 0 ≡ length cs = omega arith in
+    let top : getD (laidOn cs (c ∷ rest)) (length cs) 0 ≡ c = rw e at (read-laid cs (c ∷ rest) 0) in
+    ap (λ (x : ℕ). x ∷ stackOf (length cs) (laidOn cs (c ∷ rest))) top ∙ ap (_∷_ c) (stack-laid cs (c ∷ rest))
+
+pub counters-back : (place : ℕ) (cs : List ℕ) → countersOf (sequencerAt place cs) ≡ cs
+counters-back place cs = stack-laid cs (zeros (8 - length cs))
