@@ -40,10 +40,12 @@ fn items(row: &Row) -> Result<(u64, &'static str), String> {
 pub fn print(part: &str) -> Result<(), String> {
     println!("Instructions, counted by callgrind on smaller inputs, less those of a process that calls neither program.");
     let mut group = "";
+    let mut seen = false;
     for (number, row) in rows(Size::Small).iter().enumerate() {
         if !row.name.contains(part) {
             continue;
         }
+        seen = true;
         let (items, item) = items(row)?;
         let neither = counted(number, "neither")?;
         let per = |side| counted(number, side).map(|total| total.saturating_sub(neither) as f64 / items as f64);
@@ -56,5 +58,9 @@ pub fn print(part: &str) -> Result<(), String> {
         }
         println!("| {} | {item} | {our:.1} | {their:.1} | {:.2} | {} |", row.name, our / their, row.cleared());
     }
-    Ok(())
+    if seen {
+        Ok(())
+    } else {
+        Err(format!("no row has {part:?} in its name"))
+    }
 }

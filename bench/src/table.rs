@@ -39,10 +39,12 @@ fn times(row: &Row) -> Result<(Vec<u64>, Vec<u64>, Done), String> {
 pub fn print(part: &str) -> Result<(), String> {
     println!("Processor time; {REPETITIONS} repetitions of each, interleaved; medians, and the least times behind them.");
     let mut group = "";
+    let mut seen = false;
     for row in rows(Size::Full) {
         if !row.name.contains(part) {
             continue;
         }
+        seen = true;
         let (ours, theirs, done) = times(&row)?;
         let (items, item) = row.items(&done);
         if row.group != group {
@@ -61,5 +63,9 @@ pub fn print(part: &str) -> Result<(), String> {
             row.cleared()
         );
     }
-    Ok(())
+    if seen {
+        Ok(())
+    } else {
+        Err(format!("no row has {part:?} in its name"))
+    }
 }
