@@ -3,35 +3,13 @@
 
 #![forbid(unsafe_code)]
 
-mod acpi;
-mod compiler;
-mod configuration;
-mod device;
-mod generate;
-mod images;
-mod monitor;
-mod own_run;
-mod programs;
-mod random;
-mod runs;
-mod scripts;
-mod sequencer;
-mod state;
-mod stream;
-
-#[cfg(test)]
-mod compiler_tests;
-#[cfg(test)]
-mod run_tests;
-#[cfg(test)]
-mod tests;
-
 use std::io::{self, BufReader, BufWriter, Write};
 use std::process::ExitCode;
 
-use generate::{Source, ANYTHING};
-use images::IMAGES;
-use runs::RUNS;
+use reference::generate::{self, Source, ANYTHING};
+use reference::images::IMAGES;
+use reference::runs::RUNS;
+use reference::{scripts, stream};
 
 const USAGE: &str = "\
 usage: reference answer                read commands on standard input, print the expected answers

@@ -1,0 +1,56 @@
+//! Both programs on the same inputs: times, or instructions counted by callgrind.
+
+mod callgrind;
+mod clock;
+mod inputs;
+mod rows;
+mod table;
+mod work;
+
+use std::process::ExitCode;
+
+use rows::{rows, Size};
+use work::Side;
+
+const USAGE: &str = "\
+usage: bench [ROWS]              time both programs and print the table
+       bench --callgrind [ROWS]  count instructions instead; needs valgrind
+       bench --once ROW SIDE     one small row alone, SIDE being ours, theirs or neither
+ROWS is a part of the names of rows.
+";
+
+/// One row in a process of its own, for callgrind.
+fn once(number: &str, side: &str) -> Option<()> {
+    let row = rows(Size::Small).into_iter().nth(number.parse().ok()?)?;
+    let mut buffers = row.work.buffers();
+    let side = match side {
+        "ours" => Some(Side::Ours),
+        "theirs" => Some(Side::Theirs),
+        "neither" => None,
+        _ => return None,
+    };
+    if let Some(side) = side {
+        std::hint::black_box(row.work.done(side, &mut buffers));
+    }
+    Some(())
+}
+
+fn main() -> ExitCode {
+    let arguments: Vec<String> = std::env::args().skip(1).collect();
+    let arguments: Vec<&str> = arguments.iter().map(String::as_str).collect();
+    let told = match arguments[..] {
+        [] => table::print(""),
+        ["--callgrind"] => callgrind::print(""),
+        ["--callgrind", part] => callgrind::print(part),
+        ["--once", number, side] => once(number, side).ok_or_else(|| USAGE.to_string()),
+        [part] if !part.starts_with('-') => table::print(part),
+        _ => Err(USAGE.to_string()),
+    };
+    match told {
+        Ok(()) => ExitCode::SUCCESS,
+        Err(message) => {
+            eprintln!("{}", message.trim_end());
+            ExitCode::FAILURE
+        }
+    }
+}

@@ -1,0 +1,130 @@
+//! The rows of the table.
+
+use crate::inputs::{self, Script, MOST_RECORDS};
+use crate::work::{Done, Held, Work};
+
+#[derive(Clone, Copy, PartialEq, Eq)]
+pub enum Size {
+    /// For the clock.
+    Full,
+    /// For callgrind.
+    Small,
+}
+
+pub struct Row {
+    pub group: &'static str,
+    pub name: String,
+    pub work: Work,
+}
+
+impl Row {
+    /// How many items one repetition has, and what an item is.
+    pub fn items(&self, done: &Done) -> (u64, &'static str) {
+        match &self.work {
+            Work::Compile { script, times } => ((script.len() / 12 * times) as u64, "record"),
+            Work::Run { times, .. } => (done.numbers[1] * *times as u64, "step"),
+            Work::Accesses { list, times, .. } => ((list.len() * times) as u64, "access"),
+            Work::Events { list, times, .. } => ((list.len() * times) as u64, "event"),
+        }
+    }
+
+    /// What is cleared before each repetition, untimed.
+    pub fn cleared(&self) -> &'static str {
+        match self.work {
+            Work::Compile { .. } => "image cleared",
+            Work::Run { log: 0, .. } => "no log",
+            Work::Run { .. } => "log cleared",
+            Work::Accesses { .. } | Work::Events { .. } => "no buffer",
+        }
+    }
+}
+
+const COMPILE: &str = "Compile, 1,023 records";
+const RUN: &str = "Runs";
+const LONE: &str = "Lone calls: ours load and save 106 bytes at each call, theirs keep a struct";
+const LONE_BYTES: &str = "Lone calls: both load and save 106 bytes at each call";
+const COMPILE_GROWTH: &str = "How a compile grows";
+const RUN_GROWTH: &str = "How a run grows";
+
+fn compile(group: &'static str, name: &str, script: Vec<u8>, size: Size) -> Row {
+    let times = match size {
+        Size::Full => 4_096 * MOST_RECORDS / (script.len() / 12) / 4,
+        Size::Small => 4,
+    };
+    Row { group, name: name.to_string(), work: Work::Compile { script, times } }
+}
+
+fn run(name: &str, script: &Script, log: usize) -> Row {
+    let work = Work::Run { image: script.image(), events: Vec::new(), budget: u32::MAX, log, times: 1 };
+    Row { group: RUN, name: name.to_string(), work }
+}
+
+pub fn rows(size: Size) -> Vec<Row> {
+    let full = size == Size::Full;
+    let small = |whole: u32, part: u32| if full { whole } else { part };
+    let mut rows = vec![
+        compile(COMPILE, "flat writes", inputs::flat(MOST_RECORDS), size),
+        compile(COMPILE, "one nest of 16 blocks around all writes", inputs::one_nest(MOST_RECORDS), size),
+        compile(COMPILE, "nests of 16 blocks, ifs with elses", inputs::nests(MOST_RECORDS), size),
+        compile(COMPILE, "ifs with elses side by side", inputs::many_ifs(MOST_RECORDS), size),
+    ];
+
+    let outer = small(100, 1);
+    let depth8 = [small(7, 3); 8];
+    rows.extend([
+        run("loop in a loop, empty body", &inputs::looped(&[outer, 50_000], |_| ()), 0),
+        run("8 loops, empty body", &inputs::looped(&depth8, |_| ()), 0),
+        run("loop in a loop, one delay", &inputs::looped(&[small(40, 1), 50_000], inputs::one_delay), 0),
+        run("loop in a loop, one write to P_CNT", &inputs::looped(&[small(40, 1), 50_000], inputs::one_write), 0),
+        run("loop in a loop, one unclaimed write", &inputs::looped(&[small(40, 1), 50_000], inputs::one_unclaimed), 0),
+        run("register set-ups", &inputs::looped(&[small(40_000, 1_000)], inputs::set_up), 0),
+        run("reads to the end of a log", &inputs::reads(), small(1_000_000, 50_000) as usize),
+        run("tests and jumps", &inputs::looped(&[small(40, 1), 5_000], inputs::tests), 0),
+    ]);
+    let mut events = run("writes behind 4,096 events", &inputs::looped(&[4_096], inputs::one_write), 0);
+    if let Work::Run { events, times, .. } = &mut events.work {
+        *events = inputs::many_events();
+        *times = small(300, 4) as usize;
+    }
+    rows.push(events);
+
+    let lone_times = small(20_000, 500) as usize;
+    let access = |group, name: &str, list: Vec<_>, held| Row {
+        group,
+        name: name.to_string(),
+        work: Work::Accesses { start: inputs::start(), list, times: lone_times, held },
+    };
+    let event = |group, name: &str, list: Vec<_>, held| Row {
+        group,
+        name: name.to_string(),
+        work: Work::Events { start: inputs::start(), list, times: lone_times, held },
+    };
+    rows.extend([
+        access(LONE, "reads, all blocks", inputs::lone_reads(), Held::Struct),
+        access(LONE, "writes, all blocks", inputs::lone_writes(), Held::Struct),
+        event(LONE, "ticks", inputs::ticks(), Held::Struct),
+        event(LONE, "pins", inputs::pins(), Held::Struct),
+        event(LONE, "alarm, bus master, sensors, button", inputs::alarms(), Held::Struct),
+        event(LONE, "resets", inputs::resets(), Held::Struct),
+        access(LONE_BYTES, "reads, all blocks, from bytes", inputs::lone_reads(), Held::Bytes),
+        access(LONE_BYTES, "writes, all blocks, from bytes", inputs::lone_writes(), Held::Bytes),
+        event(LONE_BYTES, "every event, from bytes", inputs::every_event(), Held::Bytes),
+    ]);
+
+    for records in [64, 128, 256, 512, MOST_RECORDS] {
+        let name = format!("flat writes, {records} records");
+        rows.push(compile(COMPILE_GROWTH, &name, inputs::flat(records), size));
+    }
+    for records in [64, 128, 256, 512, MOST_RECORDS] {
+        let name = format!("one nest of 16 blocks, {records} records");
+        rows.push(compile(COMPILE_GROWTH, &name, inputs::one_nest(records), size));
+    }
+    let forever = inputs::looped(&[65_535, 65_535], inputs::set_up).image();
+    for power in 3..=small(7, 5) {
+        let budget = 10_u32.pow(power);
+        let times = small((4_000_000 / budget).max(1), 1) as usize;
+        let work = Work::Run { image: forever.clone(), events: Vec::new(), budget, log: 0, times };
+        rows.push(Row { group: RUN_GROWTH, name: format!("register set-ups, 10^{power} steps"), work });
+    }
+    rows
+}

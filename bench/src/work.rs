@@ -1,0 +1,213 @@
+//! A piece of work, and how each program does it.
+
+use std::hint::black_box;
+
+use reference::compiler;
+use reference::device::Device;
+use reference::sequencer::{self, Lent, Sequencer};
+use reference::state;
+
+#[derive(Clone, Copy, Debug, PartialEq, Eq)]
+pub enum Side {
+    Ours,
+    Theirs,
+}
+
+/// One lone access; a read has no value.
+#[derive(Clone, Copy)]
+pub struct Access {
+    pub width: u32,
+    pub port: u32,
+    pub written: Option<u32>,
+}
+
+/// What their lone calls work on. Ours always load and save the bytes.
+#[derive(Clone, Copy, PartialEq, Eq)]
+pub enum Held {
+    Struct,
+    Bytes,
+}
+
+pub enum Work {
+    /// The script is compiled so many times.
+    Compile { script: Vec<u8>, times: usize },
+    /// The image is run so many times, each time on a fresh device.
+    Run { image: Vec<u8>, events: Vec<u32>, budget: u32, log: usize, times: usize },
+    /// The list is gone through so many times on one device, which starts from the state.
+    Accesses { start: state::StateBytes, list: Vec<Access>, times: usize, held: Held },
+    Events { start: state::StateBytes, list: Vec<u32>, times: usize, held: Held },
+}
+
+/// What a call writes into beside its answer.
+#[derive(PartialEq, Eq)]
+pub struct Buffers {
+    image: Vec<u8>,
+    log: Vec<u32>,
+}
+
+/// Everything that the two programs must agree on: the numbers of the last call, a sum over all calls, the device.
+#[derive(Debug, PartialEq, Eq)]
+pub struct Done {
+    pub numbers: [u64; 5],
+    pub sum: u64,
+    pub state: Option<state::StateBytes>,
+}
+
+fn added(sum: u64, number: u64) -> u64 {
+    sum.rotate_left(5) ^ number
+}
+
+fn outputs(sci: bool, smi: bool, monitor: bool) -> u64 {
+    u64::from(sci) | u64::from(smi) << 1 | u64::from(monitor) << 2
+}
+
+impl Work {
+    /// Cleared buffers, every byte of them touched.
+    pub fn buffers(&self) -> Buffers {
+        let (image, log) = match self {
+            Work::Compile { .. } => (runnelopal::IMAGE_BYTES, 0),
+            Work::Run { log, .. } => (0, *log),
+            Work::Accesses { .. } | Work::Events { .. } => (0, 0),
+        };
+        Buffers { image: vec![0xEE; image], log: vec![0xEEEE_EEEE; log] }
+    }
+
+    pub fn done(&self, side: Side, buffers: &mut Buffers) -> Done {
+        match (self, side) {
+            (Work::Compile { script, times }, _) => compiled(side, script, *times, &mut buffers.image),
+            (Work::Run { image, events, budget, times, .. }, Side::Ours) => {
+                our_run(image, events, *budget, &mut buffers.log, *times)
+            }
+            (Work::Run { image, events, budget, times, .. }, Side::Theirs) => {
+                their_run(image, events, *budget, &mut buffers.log, *times)
+            }
+            (Work::Accesses { start, list, times, .. }, Side::Ours) => our_accesses(start, list, *times),
+            (Work::Accesses { start, list, times, held }, Side::Theirs) => their_accesses(start, list, *times, *held),
+            (Work::Events { start, list, times, .. }, Side::Ours) => our_events(start, list, *times),
+            (Work::Events { start, list, times, held }, Side::Theirs) => their_events(start, list, *times, *held),
+        }
+    }
+}
+
+fn compiled(side: Side, script: &[u8], times: usize, image: &mut [u8]) -> Done {
+    let mut words = 0;
+    for _ in 0..times {
+        let script = black_box(script);
+        words = match side {
+            Side::Ours => runnelopal::compile(script, image).expect("a good script"),
+            Side::Theirs => compiler::compile(script, image).expect("a good script"),
+        };
+        black_box(&mut *image);
+    }
+    Done { numbers: [words as u64, 0, 0, 0, 0], sum: 0, state: None }
+}
+
+fn our_run(image: &[u8], events: &[u32], budget: u32, log: &mut [u32], times: usize) -> Done {
+    let mut done = None;
+    for _ in 0..times {
+        done = Some(runnelopal::run(black_box(image), events, budget, log).expect("a good image"));
+        black_box(&mut *log);
+    }
+    let run = done.expect("at least one run");
+    Done {
+        numbers: [u64::from(run.ending), run.steps, run.taken as u64, run.logged as u64, run.place],
+        sum: 0,
+        state: Some(run.device.state),
+    }
+}
+
+fn their_run(image: &[u8], events: &[u32], budget: u32, log: &mut [u32], times: usize) -> Done {
+    let mut done = None;
+    for _ in 0..times {
+        let mut device = Device::fresh();
+        let mut sequencer = Sequencer::fresh();
+        let lent = Lent { image: black_box(image), events, budget, log: &mut *log };
+        let ended = sequencer::run(lent, &mut device, &mut sequencer, &mut ()).expect("a good image");
+        done = Some((ended, sequencer.place, state::encode(&device)));
+        black_box(&mut *log);
+    }
+    let (ended, place, state) = done.expect("at least one run");
+    Done {
+        numbers: [
+            u64::from(ended.ending.number()),
+            ended.steps,
+            ended.events_taken as u64,
+            ended.values_logged as u64,
+            u64::from(place),
+        ],
+        sum: 0,
+        state: Some(state),
+    }
+}
+
+fn our_accesses(start: &state::StateBytes, list: &[Access], times: usize) -> Done {
+    let mut device = runnelopal::Device { state: *start };
+    let mut sum = 0;
+    for _ in 0..times {
+        for access in black_box(list) {
+            let answer = match access.written {
+                None => device.read(access.width, access.port),
+                Some(value) => device.write(access.width, access.port, value),
+            };
+            let answer = answer.expect("a good access");
+            let on = answer.outputs;
+            sum = added(sum, answer.status << 40 | u64::from(answer.value) << 3 | outputs(on.sci, on.smi, on.monitor));
+        }
+    }
+    Done { numbers: [0; 5], sum, state: Some(device.state) }
+}
+
+fn their_access(device: &mut Device, access: &Access) -> u64 {
+    let answer = match access.written {
+        None => device.lone_read(access.width, access.port),
+        Some(value) => device.lone_write(access.width, access.port, value),
+    };
+    let answer = answer.expect("a good access");
+    let on = device.outputs();
+    u64::from(answer.status) << 40 | u64::from(answer.value) << 3 | outputs(on.sci, on.smi, on.monitor)
+}
+
+/// Calls `with` on each item, on a device that is kept as a struct or as bytes in between.
+#[inline(always)]
+fn each<T>(start: &state::StateBytes, list: &[T], times: usize, held: Held, with: impl Fn(&mut Device, &T) -> u64) -> Done {
+    let mut sum = 0;
+    let mut bytes = *start;
+    let mut device = state::decode(&bytes).expect("a good state");
+    for _ in 0..times {
+        for item in black_box(list) {
+            if held == Held::Struct {
+                sum = added(sum, with(&mut device, item));
+            } else {
+                let mut loaded = state::decode(black_box(&bytes)).expect("a good state");
+                sum = added(sum, with(&mut loaded, item));
+                bytes = state::encode(&loaded);
+            }
+        }
+    }
+    let state = if held == Held::Struct { state::encode(&device) } else { bytes };
+    Done { numbers: [0; 5], sum, state: Some(state) }
+}
+
+fn their_accesses(start: &state::StateBytes, list: &[Access], times: usize, held: Held) -> Done {
+    each(start, list, times, held, their_access)
+}
+
+fn our_events(start: &state::StateBytes, list: &[u32], times: usize) -> Done {
+    let mut device = runnelopal::Device { state: *start };
+    let mut sum = 0;
+    for _ in 0..times {
+        for number in black_box(list) {
+            let on = device.event(*number).expect("a good event");
+            sum = added(sum, outputs(on.sci, on.smi, on.monitor));
+        }
+    }
+    Done { numbers: [0; 5], sum, state: Some(device.state) }
+}
+
+fn their_events(start: &state::StateBytes, list: &[u32], times: usize, held: Held) -> Done {
+    each(start, list, times, held, |device, number| {
+        device.lone_event(*number).expect("a good event");
+        let on = device.outputs();
+        outputs(on.sci, on.smi, on.monitor)
+    })
+}

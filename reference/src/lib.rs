@@ -1,0 +1,26 @@
+//! The independent second program as a library: what its command, its tests and the benchmark use.
+
+#![forbid(unsafe_code)]
+
+pub mod acpi;
+pub mod compiler;
+pub mod configuration;
+pub mod device;
+pub mod generate;
+pub mod images;
+pub mod monitor;
+pub mod own_run;
+pub mod programs;
+pub mod random;
+pub mod runs;
+pub mod scripts;
+pub mod sequencer;
+pub mod state;
+pub mod stream;
+
+#[cfg(test)]
+mod compiler_tests;
+#[cfg(test)]
+mod run_tests;
+#[cfg(test)]
+mod tests;
