@@ -1,11 +1,12 @@
 -- The compiler's walk over the records: room for the frames, and what each record leaves. Assumes nothing.
 use Prim.Native.Nat.{ℕ, zero, suc, _+_, _-_, _*_, _≤_, _<_}
 use mathlib.Core.Path.{_≡_, refl, sym, ap, _∙_}
-use mathlib.Core.Bool.{Bool, true, false, cond, _||_}
+use mathlib.Core.Bool.{Bool, true, false, and-false, cond, _||_}
 use mathlib.Core.List.{List, [], _∷_}
 use native.Mathlib.Decide.{decLt}
 use native.Mathlib.Numerals.{add-one}
 use native.Mathlib.Omega.{arith}
+use borrow.Author.Tests.{ne-eqb}
 use lib.Dec.{eqb}
 use lib.ListN.{length}
 use Rattle.record.specs.Record.{recordAt}
@@ -46,6 +47,17 @@ module _ (bytes : List ℕ) (count k depth at : ℕ) (r : Record) (h : k < count
       → ahead depth at (recordsFrom (count - k) k bytes)
       ≡ ahead (depthAfter depth (r .kind)) (cond (eqb (r .kind) 5) at (suc at)) (recordsFrom (count - (k + 1)) (k + 1) bytes)
   look-goes s = rw (from-here bytes count k h, ← e, s, add-one k)
+
+  -- a write, a read or a delay
+  pub look-passes : r .kind ≤ 3
+      → ahead depth at (recordsFrom (count - k) k bytes) ≡ ahead depth (at + 1) (recordsFrom (count - (k + 1)) (k + 1) bytes)
+  look-passes l =
+      let n4 = ne-eqb (r .kind) 4 (λ q. omega (arith, q, l)) in
+      let n5 = ne-eqb (r .kind) 5 (λ q. omega (arith, q, l)) in
+      let n6 = ne-eqb (r .kind) 6 (λ q. omega (arith, q, l)) in
+      let n7 = ne-eqb (r .kind) 7 (λ q. omega (arith, q, l)) in
+      let s : stops depth (r .kind) ≡ false = rw (n6, n7) (and-false (eqb depth 0)) in
+      look-goes s ∙ rw (n4, n5, n7, add-one at)
 
 pub shallow : (depth kind : ℕ) → depthAfter depth kind ≤ suc depth
 shallow depth kind = pick (eqb kind 4 || eqb kind 5) (eqb kind 7)

@@ -92,12 +92,18 @@ fn look(script: &[u8], count: usize, from: usize, place: u32) -> u32
     let mut next = from;
     while next < count {
         let r = record::read(script, 12 * next);
-        if stops(depth, r.kind) {
-            return stopped(at, r.kind);
+        // A write, a read or a delay is passed over at once: most records are such.
+        if r.kind <= script::DELAY {
+            at = at + 1;
+            next = next + 1;
+        } else {
+            if stops(depth, r.kind) {
+                return stopped(at, r.kind);
+            }
+            at = counted(at, r.kind);
+            depth = depth_after(depth, r.kind);
+            next = next + 1;
         }
-        at = counted(at, r.kind);
-        depth = depth_after(depth, r.kind);
-        next = next + 1;
     }
     at
 }
