@@ -19,7 +19,7 @@ ghost use Rattle.monitor.specs.Monitor.{
 };
 ghost use Rattle.monitor.specs.Table.{kindOf, maskOf, resetOf, slotOf};
 
-// What can change is stored: the registers at the indices of `STORED`, in its order.
+// What can change is stored: the registers at 40h, 7Ch, 7Eh, 80h to 83h, 90h, 91h and B5h to B7h, in this order.
 pub struct Monitor {
     pub index: u8,
     pub registers: [u8; 12],
@@ -837,21 +837,6 @@ impl Monitor {
         0x00,
     ];
 
-    pub const STORED: [u8; 12] = [
-        0x40,
-        0x7C,
-        0x7E,
-        0x80,
-        0x81,
-        0x82,
-        0x83,
-        0x90,
-        0x91,
-        0xB5,
-        0xB6,
-        0xB7,
-    ];
-
     fn kind(index: u8) -> u8
         ensures { λ r. ⌜ r ≡ kindOf index ⌝ }
     {
@@ -913,17 +898,23 @@ impl Monitor {
         }
     }
 
+    // Every register within its mask. The masks stand here once more: an index into `MASK` lays out the whole table anew.
     pub fn in_range(self) -> bool
         ensures { λ r. ⌜ r ≡ monitorInRange self ⌝ }
     {
         let registers = self.registers;
-        for k in 0..12 {
-            let mask = Monitor::mask(Monitor::STORED[k]);
-            if !mask::within8(mask, registers[k]) {
-                return false;
-            }
-        }
-        true
+        mask::within8(0x02, registers[0])
+            & mask::within8(0xE6, registers[1])
+            & mask::within8(0xFF, registers[2])
+            & mask::within8(0x0F, registers[3])
+            & mask::within8(0x3F, registers[4])
+            & mask::within8(0x0F, registers[5])
+            & mask::within8(0x03, registers[6])
+            & mask::within8(0x1F, registers[7])
+            & mask::within8(0x1F, registers[8])
+            & mask::within8(0x33, registers[9])
+            & mask::within8(0xF0, registers[10])
+            & mask::within8(0x0F, registers[11])
     }
 
     // Lock is bit 1 of 40h.

@@ -137,28 +137,6 @@ fn put_happened(answer: &mut [u64], r: Happened)
     put_outputs(answer, 1, outputs);
 }
 
-fn access_saved(state: &[u8], access: Access) -> Accessed
-    ensures { λ r. ⌜ r ≡ savedAccess (now (state .entry)) access ⌝ }
-{
-    let loaded = state::load(state);
-    let device = loaded.device;
-    if loaded.valid {
-        return device.access(access);
-    }
-    device::lone::access_refused(device::lone::BAD_STATE, device)
-}
-
-fn event_saved(state: &[u8], number: u32) -> Happened
-    ensures { λ r. ⌜ r ≡ savedEvent (now (state .entry)) number ⌝ }
-{
-    let loaded = state::load(state);
-    let device = loaded.device;
-    if loaded.valid {
-        return device.event(number);
-    }
-    device::lone::event_refused(device::lone::BAD_STATE, device)
-}
-
 // A refusal leaves the state as it was.
 fn keep(state: &mut [u8], refusal: u32, device: Device)
     ensures { λ _. ⌜ now (state .exit) ≡ kept refusal device (now (state .entry)) ⌝ }
@@ -182,17 +160,21 @@ pub extern "C" fn runnelopal_access(
     ensures { λ _. ⌜ now (state .exit) ≡ kept (savedAccess (now (state .entry)) (accessOf write width port value) .refusal) (savedAccess (now (state .entry)) (accessOf write width port value) .device) (now (state .entry)) ⌝ }
     ensures { λ _. ⌜ now (answer .exit) ≡ numbered 0 (accessNumbers (savedAccess (now (state .entry)) (accessOf write width port value))) (now (answer .entry)) ⌝ }
 {
-    let r = access_saved(
-        state,
-        Access {
+    let loaded = state::load(state);
+    let device = loaded.device;
+    if loaded.valid {
+        let r = device.access(Access {
             write,
             width,
             port,
             value,
-        },
-    );
-    let next = r.device;
-    keep(state, r.refusal, next);
+        });
+        let next = r.device;
+        keep(state, r.refusal, next);
+        put_accessed(answer, r);
+        return r.refusal;
+    }
+    let r = device::lone::access_refused(device::lone::BAD_STATE, device);
     put_accessed(answer, r);
     r.refusal
 }
@@ -204,9 +186,16 @@ pub extern "C" fn runnelopal_event(state: &mut [u8], number: u32, answer: &mut [
     ensures { λ _. ⌜ now (state .exit) ≡ kept (savedEvent (now (state .entry)) number .refusal) (savedEvent (now (state .entry)) number .device) (now (state .entry)) ⌝ }
     ensures { λ _. ⌜ now (answer .exit) ≡ numbered 0 (eventNumbers (savedEvent (now (state .entry)) number)) (now (answer .entry)) ⌝ }
 {
-    let r = event_saved(state, number);
-    let next = r.device;
-    keep(state, r.refusal, next);
+    let loaded = state::load(state);
+    let device = loaded.device;
+    if loaded.valid {
+        let r = device.event(number);
+        let next = r.device;
+        keep(state, r.refusal, next);
+        put_happened(answer, r);
+        return r.refusal;
+    }
+    let r = device::lone::event_refused(device::lone::BAD_STATE, device);
     put_happened(answer, r);
     r.refusal
 }

@@ -1,6 +1,6 @@
 -- A slice of 106 bytes takes a state whole and is read whole; one of another length does neither. Assumes nothing.
 use Prim.Native.Nat.{ℕ, _+_, _≤_}
-use mathlib.Core.Path.{_≡_, ap, sym, _∙_}
+use mathlib.Core.Path.{_≡_, sym, _∙_}
 use mathlib.Core.List.{List, [], append-nil}
 use lib.ListN.{drop, drop-of-length-le, length}
 use lib.Seq.{paste, take-length}
@@ -29,14 +29,9 @@ pub saved-not : (d : Device) (lent : List ℕ) → (length lent ≡ 106 → ⊥)
 unfolding saved
 saved-not d lent n = rw (ne-eqb (length lent) 106 n)
 
-pub loaded-whole :
-    (bytes read zeros : List ℕ) (r : Loaded) → length bytes ≡ 106 → length zeros ≡ 106
-    → read ≡ paste zeros 0 bytes (length bytes)
-    → r ≡ loadedFrom read
-    → r ≡ loaded bytes
+pub loaded-whole : (bytes : List ℕ) (r : Loaded) → length bytes ≡ 106 → r ≡ loadedFrom bytes → r ≡ loaded bytes
 unfolding loaded
-loaded-whole bytes read zeros r n z e l =
-    rw (eq-eqb (length bytes) 106 n) (l ∙ ap loadedFrom (e ∙ whole zeros bytes (n ∙ sym z)))
+loaded-whole bytes r n l = rw (eq-eqb (length bytes) 106 n) l
 
 pub loaded-not : (bytes : List ℕ) → (length bytes ≡ 106 → ⊥) → refused ≡ loaded bytes
 unfolding loaded

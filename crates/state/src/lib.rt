@@ -4,6 +4,7 @@ mod write;
 
 use device::Device;
 ghost use mathlib.Core.Path.{_≡_};
+ghost use lib.ListN.{length};
 ghost use Rattle.state.specs.State.{stateBytes, loadedFrom, saved, loaded};
 
 pub const SIZE: usize = 106;
@@ -29,7 +30,8 @@ pub fn bytes_of(device: Device) -> [u8; 106]
     bytes
 }
 
-pub fn device_of(bytes: &[u8; 106]) -> Loaded
+fn read_from(bytes: &[u8]) -> Loaded
+    requires { ⌜ length (now bytes) ≡ 106 ⌝ }
     ensures { λ r. ⌜ r ≡ loadedFrom (now (bytes .entry)) ⌝ }
 {
     let config = read::config(bytes);
@@ -46,6 +48,12 @@ pub fn device_of(bytes: &[u8; 106]) -> Loaded
         valid: read::is_held(bytes),
         device,
     }
+}
+
+pub fn device_of(bytes: &[u8; 106]) -> Loaded
+    ensures { λ r. ⌜ r ≡ loadedFrom (now (bytes .entry)) ⌝ }
+{
+    read_from(bytes)
 }
 
 // Writes the state into a slice of 106 bytes; one of another length is left as it is.
@@ -67,7 +75,5 @@ pub fn load(bytes: &[u8]) -> Loaded
             device: Device::fresh(),
         };
     }
-    let mut whole = [0u8; 106];
-    write::put(&mut whole, 0, bytes);
-    device_of(&whole)
+    read_from(bytes)
 }

@@ -1,10 +1,11 @@
-// A block from the bytes of the state, and whether a device can hold them.
+// A block from the 106 bytes of the state, and whether a device can hold them.
 use acpi::Acpi;
 use config::Config;
 use config::key::Key;
 use monitor::Monitor;
 ghost use mathlib.Core.Path.{_≡_};
 ghost use Prim.Native.Nat.{_+_, _*_, _<_};
+ghost use lib.ListN.{length};
 ghost use Rattle.state.specs.State.{
   wordAt,
   longAt,
@@ -31,21 +32,24 @@ fn wide(x: u16) -> u32
     x as u32
 }
 
-fn word(bytes: &[u8; 106], at: usize) -> u16
+fn word(bytes: &[u8], at: usize) -> u16
+    requires { ⌜ length (now bytes) ≡ 106 ⌝ }
     requires { ⌜ at < 105 ⌝ }
     ensures { λ r. ⌜ r ≡ wordAt (now (bytes .entry)) at ⌝ }
 {
     pair(bytes[at], bytes[at + 1])
 }
 
-fn long(bytes: &[u8; 106], at: usize) -> u32
+fn long(bytes: &[u8], at: usize) -> u32
+    requires { ⌜ length (now bytes) ≡ 106 ⌝ }
     requires { ⌜ at < 103 ⌝ }
     ensures { λ r. ⌜ r ≡ longAt (now (bytes .entry)) at ⌝ }
 {
     wide(word(bytes, at)) + wide(word(bytes, at + 2)) * 65536
 }
 
-pub fn config(bytes: &[u8; 106]) -> Config
+pub fn config(bytes: &[u8]) -> Config
+    requires { ⌜ length (now bytes) ≡ 106 ⌝ }
     ensures { λ r. ⌜ r ≡ configAt (now (bytes .entry)) ⌝ }
 {
     Config {
@@ -59,7 +63,8 @@ pub fn config(bytes: &[u8; 106]) -> Config
     }
 }
 
-pub fn key(bytes: &[u8; 106]) -> Key
+pub fn key(bytes: &[u8]) -> Key
+    requires { ⌜ length (now bytes) ≡ 106 ⌝ }
     ensures { λ r. ⌜ r ≡ keyAt (now (bytes .entry)) ⌝ }
 {
     let mut key = [0u8; 32];
@@ -69,7 +74,8 @@ pub fn key(bytes: &[u8; 106]) -> Key
     Key { bytes: key }
 }
 
-pub fn monitor(bytes: &[u8; 106]) -> Monitor
+pub fn monitor(bytes: &[u8]) -> Monitor
+    requires { ⌜ length (now bytes) ≡ 106 ⌝ }
     ensures { λ r. ⌜ r ≡ monitorAt (now (bytes .entry)) ⌝ }
 {
     Monitor {
@@ -91,7 +97,8 @@ pub fn monitor(bytes: &[u8; 106]) -> Monitor
     }
 }
 
-fn maps(bytes: &[u8; 106]) -> [u16; 8]
+fn maps(bytes: &[u8]) -> [u16; 8]
+    requires { ⌜ length (now bytes) ≡ 106 ⌝ }
     ensures { λ r. ⌜ r ≡ wordsFrom 8 77 (now (bytes .entry)) ⌝ }
 {
     [
@@ -106,7 +113,8 @@ fn maps(bytes: &[u8; 106]) -> [u16; 8]
     ]
 }
 
-fn levels(bytes: &[u8; 106]) -> [bool; 8]
+fn levels(bytes: &[u8]) -> [bool; 8]
+    requires { ⌜ length (now bytes) ≡ 106 ⌝ }
     ensures { λ r. ⌜ r ≡ flagsFrom 8 98 (now (bytes .entry)) ⌝ }
 {
     [
@@ -121,7 +129,8 @@ fn levels(bytes: &[u8; 106]) -> [bool; 8]
     ]
 }
 
-pub fn acpi(bytes: &[u8; 106]) -> Acpi
+pub fn acpi(bytes: &[u8]) -> Acpi
+    requires { ⌜ length (now bytes) ≡ 106 ⌝ }
     ensures { λ r. ⌜ r ≡ acpiAt (now (bytes .entry)) ⌝ }
 {
     let maps = maps(bytes);
@@ -145,13 +154,15 @@ pub fn acpi(bytes: &[u8; 106]) -> Acpi
 }
 
 // The read-only monitor registers 84h to 88h.
-fn are_zero(bytes: &[u8; 106]) -> bool
+fn are_zero(bytes: &[u8]) -> bool
+    requires { ⌜ length (now bytes) ≡ 106 ⌝ }
     ensures { λ r. ⌜ r ≡ areZero (now (bytes .entry)) ⌝ }
 {
     (bytes[51] == 0) & (bytes[52] == 0) & (bytes[53] == 0) & (bytes[54] == 0) & (bytes[55] == 0)
 }
 
-fn are_flags(bytes: &[u8; 106]) -> bool
+fn are_flags(bytes: &[u8]) -> bool
+    requires { ⌜ length (now bytes) ≡ 106 ⌝ }
     ensures { λ r. ⌜ r ≡ areFlags (now (bytes .entry)) ⌝ }
 {
     (bytes[98] < 2)
@@ -165,7 +176,8 @@ fn are_flags(bytes: &[u8; 106]) -> bool
 }
 
 // The flags are 0 or 1, and the read-only monitor registers 6Eh, 6Fh and 84h to 88h at their reset.
-pub fn is_held(bytes: &[u8; 106]) -> bool
+pub fn is_held(bytes: &[u8]) -> bool
+    requires { ⌜ length (now bytes) ≡ 106 ⌝ }
     ensures { λ r. ⌜ r ≡ isHeld (now (bytes .entry)) ⌝ }
 {
     let zero = are_zero(bytes);

@@ -1,12 +1,18 @@
--- `runnelopal::runnelopal_access` meets its contract. Assumes nothing.
+-- `runnelopal::runnelopal_access` meets its contract: bytes that are no state are refused, and else the device answers.
+-- Assumes nothing.
 use Rattle.device.specs.declared.lone.Accessed.{Accessed}
 use mathlib.Core.Path.{ap, _∙_}
 use borrow.Author.Needs.{needs}
+use Rattle.runnelopal.proofs.Saved.{access-answered, access-no-state}
+use Rattle.runnelopal.specs.Calls.{accessOf}
 use Rattle.runnelopal.proofs.runnelopal_access.Statement.{statement}
 use Rattle.runnelopal.proofs.runnelopal_access.Tie as tie
 
-access-saved-requires : tie.Need-access-saved-requires
-access-saved-requires c κs = search needs
+load-requires : tie.Need-load-requires
+load-requires c κs = search needs
+
+access-requires : tie.Need-access-requires
+access-requires c κs = search needs
 
 keep-requires : tie.Need-keep-requires
 keep-requires c κs = search needs
@@ -22,18 +28,46 @@ same-length-2 c = search needs
 
 returns : tie.Need-returns
 returns c =
-    let e = c .before .before .before .before .before .before .before .before .before .access-saved .ensures in (
+    let e =
+    access-answered _ _ _ _ (c .before .before .before .before .before .before .before .before .before .before .before .before .load .ensures) (c .before .before .before .before .before .before .before .before .before .before .if1 .taken)
+    (c .before .before .before .before .before .before .before .before .before .access .ensures) in (
       ap (λ (x : Accessed). x .refusal) e,
       (c .before .before .before .before .before .before .keep .ensures ∙ rw e, c .before .before .put-accessed .ensures ∙ rw e),
+    )
+
+access-refused-requires : tie.Need-access-refused-requires
+access-refused-requires c κs = search needs
+
+put-accessed-requires-2 : tie.Need-put-accessed-requires-2
+put-accessed-requires-2 c κs = search needs
+
+same-length-3 : tie.Need-same-length-3
+same-length-3 c = search needs
+
+same-length-4 : tie.Need-same-length-4
+same-length-4 c = search needs
+
+returns-2 : tie.Need-returns-2
+returns-2 c =
+    let refused = c .before .before .before .before .access-refused .ensures in
+    let e = access-no-state _ (accessOf (c .before .before .before .before .before .before .before .before .before .before .before .args .write) (c .before .before .before .before .before .before .before .before .before .before .before .args .width) (c .before .before .before .before .before .before .before .before .before .before .before .args .port) (c .before .before .before .before .before .before .before .before .before .before .before .args .value)) _ _ (c .before .before .before .before .before .before .before .load .ensures) (c .before .before .before .before .before .if1 .left) refused in (
+      ap (λ (x : Accessed). x .refusal) e,
+      (rw (← e, refused), c .before .before .put-accessed2 .ensures ∙ rw e),
     )
 
 pub runnelopal-access-spec : {M : Type 1} → statement M
 runnelopal-access-spec =
     tie.close
     (tie.spec
-    access-saved-requires
+    load-requires
+    access-requires
     keep-requires
     put-accessed-requires
     same-length
     same-length-2
-    returns)
+    returns
+    access-refused-requires
+    put-accessed-requires-2
+    same-length-3
+    same-length-4
+    returns-2)

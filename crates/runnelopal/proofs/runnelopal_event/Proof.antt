@@ -1,12 +1,17 @@
--- `runnelopal::runnelopal_event` meets its contract. Assumes nothing.
+-- `runnelopal::runnelopal_event` meets its contract: bytes that are no state are refused, and else the device answers.
+-- Assumes nothing.
 use Rattle.device.specs.declared.lone.Happened.{Happened}
 use mathlib.Core.Path.{ap, _∙_}
 use borrow.Author.Needs.{needs}
+use Rattle.runnelopal.proofs.Saved.{event-answered, event-no-state}
 use Rattle.runnelopal.proofs.runnelopal_event.Statement.{statement}
 use Rattle.runnelopal.proofs.runnelopal_event.Tie as tie
 
-event-saved-requires : tie.Need-event-saved-requires
-event-saved-requires c κs = search needs
+load-requires : tie.Need-load-requires
+load-requires c κs = search needs
+
+event-requires : tie.Need-event-requires
+event-requires c κs = search needs
 
 keep-requires : tie.Need-keep-requires
 keep-requires c κs = search needs
@@ -22,18 +27,46 @@ same-length-2 c = search needs
 
 returns : tie.Need-returns
 returns c =
-    let e = c .before .before .before .before .before .before .before .before .before .event-saved .ensures in (
+    let e =
+    event-answered _ _ _ _ (c .before .before .before .before .before .before .before .before .before .before .before .before .load .ensures) (c .before .before .before .before .before .before .before .before .before .before .if1 .taken)
+    (c .before .before .before .before .before .before .before .before .before .event .ensures) in (
       ap (λ (x : Happened). x .refusal) e,
       (c .before .before .before .before .before .before .keep .ensures ∙ rw e, c .before .before .put-happened .ensures ∙ rw e),
+    )
+
+event-refused-requires : tie.Need-event-refused-requires
+event-refused-requires c κs = search needs
+
+put-happened-requires-2 : tie.Need-put-happened-requires-2
+put-happened-requires-2 c κs = search needs
+
+same-length-3 : tie.Need-same-length-3
+same-length-3 c = search needs
+
+same-length-4 : tie.Need-same-length-4
+same-length-4 c = search needs
+
+returns-2 : tie.Need-returns-2
+returns-2 c =
+    let refused = c .before .before .before .before .event-refused .ensures in
+    let e = event-no-state _ (c .before .before .before .before .before .before .before .before .before .before .before .args .number) _ _ (c .before .before .before .before .before .before .before .load .ensures) (c .before .before .before .before .before .if1 .left) refused in (
+      ap (λ (x : Happened). x .refusal) e,
+      (rw (← e, refused), c .before .before .put-happened2 .ensures ∙ rw e),
     )
 
 pub runnelopal-event-spec : {M : Type 1} → statement M
 runnelopal-event-spec =
     tie.close
     (tie.spec
-    event-saved-requires
+    load-requires
+    event-requires
     keep-requires
     put-happened-requires
     same-length
     same-length-2
-    returns)
+    returns
+    event-refused-requires
+    put-happened-requires-2
+    same-length-3
+    same-length-4
+    returns-2)

@@ -1,81 +1,125 @@
--- `monitor::Monitor::in_range` meets its contract: the loop has found every register before `k` within its mask.
--- Assumes nothing.
-use Prim.Native.Nat.{_≤_, _-_}
-use mathlib.Core.Path.{_≡_, refl, sym, _∙_}
-use mathlib.Core.Bool.{true, false}
-use native.Mathlib.Numerals.{add-one}
-use native.Mathlib.Omega.{arith}
+-- `monitor::Monitor::in_range` meets its contract: each register is tested with the mask of its row. Assumes nothing.
 use borrow.Author.Needs.{needs}
-use borrow.Author.Tests.{not-true, not-false}
-use Rattle.mask.proofs.Every.{all-false, all-more}
-use Rattle.mask.specs.Every.{allBelow}
-use Rattle.monitor.specs.Monitor.{monitorInRange, slotInRange}
+use Rattle.monitor.specs.Monitor.{monitorInRange}
+use Rattle.monitor.specs.Table.{maskOf}
 use Rattle.monitor.proofs.Monitor.in_range.Statement.{statement}
 use Rattle.monitor.proofs.Monitor.in_range.Tie as tie
 
-abbrev Inv-loop : tie.InvT-loop
-Inv-loop registers k₀ k = (k ≤ 12) × (allBelow k (slotInRange registers) ≡ true)
+array-read-within8 : tie.Need-array-read-within8
+array-read-within8 c = search needs
 
-abbrev μ-loop : tie.MeasureT-loop
-μ-loop registers k₀ k = 12 - k
-
-loop-holds : tie.Need-loop-holds Inv-loop μ-loop
-loop-holds c = (omega arith, refl)
-
-array-read-mask : tie.Need-array-read-mask Inv-loop μ-loop
-array-read-mask c = omega arith
-
-mask-requires : tie.Need-mask-requires Inv-loop μ-loop
-mask-requires c κs = search needs
-
-array-read-within8 : tie.Need-array-read-within8 Inv-loop μ-loop
-array-read-within8 c = omega arith
-
-within8-requires : tie.Need-within8-requires Inv-loop μ-loop
+within8-requires : tie.Need-within8-requires
 within8-requires c κs = search needs
 
-returns : tie.Need-returns Inv-loop μ-loop
-unfolding monitorInRange
-returns c =
-    let k = c .before .before .before .before .loop .k in
-    let registers = c .before .before .before .before .before .before .args .self .registers in
-    let t = rw (c .before .before .mask .ensures) at (c .before .within8 .ensures) in
-    sym (all-false 12 (slotInRange registers) k (omega arith) (sym t ∙ not-true _ (c .if1 .taken)))
+array-read-within8-2 : tie.Need-array-read-within8-2
+array-read-within8-2 c = search needs
 
-add-k : tie.Need-add-k Inv-loop μ-loop
-add-k c = omega arith
+within8-requires-2 : tie.Need-within8-requires-2
+within8-requires-2 c κs = search needs
 
-loop-less : tie.Need-loop-less Inv-loop μ-loop
-loop-less c = omega arith
+array-read-within8-3 : tie.Need-array-read-within8-3
+array-read-within8-3 c = search needs
 
-loop-again : tie.Need-loop-again Inv-loop μ-loop
-loop-again c =
-    let k = c .before .before .before .before .loop .k in
-    let registers = c .before .before .before .before .before .before .args .self .registers in
-    let t = rw (c .before .before .mask .ensures) at (c .before .within8 .ensures) in (
-      omega arith,
-      all-more k (slotInRange registers) (c .before .before .before .before .loop .inv .1) (sym t ∙ not-false _ (c .if1 .left)),
-    )
+within8-requires-3 : tie.Need-within8-requires-3
+within8-requires-3 c κs = search needs
 
-returns-2 : tie.Need-returns-2 Inv-loop μ-loop
-unfolding monitorInRange
-returns-2 c =
-    let e : c .before .loop .k ≡ 12 = omega arith in
-    sym (rw e at (c .before .loop .inv .1))
+array-read-within8-4 : tie.Need-array-read-within8-4
+array-read-within8-4 c = search needs
+
+within8-requires-4 : tie.Need-within8-requires-4
+within8-requires-4 c κs = search needs
+
+array-read-within8-5 : tie.Need-array-read-within8-5
+array-read-within8-5 c = search needs
+
+within8-requires-5 : tie.Need-within8-requires-5
+within8-requires-5 c κs = search needs
+
+array-read-within8-6 : tie.Need-array-read-within8-6
+array-read-within8-6 c = search needs
+
+within8-requires-6 : tie.Need-within8-requires-6
+within8-requires-6 c κs = search needs
+
+array-read-within8-7 : tie.Need-array-read-within8-7
+array-read-within8-7 c = search needs
+
+within8-requires-7 : tie.Need-within8-requires-7
+within8-requires-7 c κs = search needs
+
+array-read-within8-8 : tie.Need-array-read-within8-8
+array-read-within8-8 c = search needs
+
+within8-requires-8 : tie.Need-within8-requires-8
+within8-requires-8 c κs = search needs
+
+array-read-within8-9 : tie.Need-array-read-within8-9
+array-read-within8-9 c = search needs
+
+within8-requires-9 : tie.Need-within8-requires-9
+within8-requires-9 c κs = search needs
+
+array-read-within8-10 : tie.Need-array-read-within8-10
+array-read-within8-10 c = search needs
+
+within8-requires-10 : tie.Need-within8-requires-10
+within8-requires-10 c κs = search needs
+
+array-read-within8-11 : tie.Need-array-read-within8-11
+array-read-within8-11 c = search needs
+
+within8-requires-11 : tie.Need-within8-requires-11
+within8-requires-11 c κs = search needs
+
+array-read-within8-12 : tie.Need-array-read-within8-12
+array-read-within8-12 c = search needs
+
+within8-requires-12 : tie.Need-within8-requires-12
+within8-requires-12 c κs = search needs
+
+returns : tie.Need-returns
+unfolding monitorInRange maskOf
+returns c = rw (
+  c .before .before .before .before .before .before .before .before .before .before .before .within8 .ensures,
+  c .before .before .before .before .before .before .before .before .before .before .within82 .ensures,
+  c .before .before .before .before .before .before .before .before .before .within83 .ensures,
+  c .before .before .before .before .before .before .before .before .within84 .ensures,
+  c .before .before .before .before .before .before .before .within85 .ensures,
+  c .before .before .before .before .before .before .within86 .ensures,
+  c .before .before .before .before .before .within87 .ensures,
+  c .before .before .before .before .within88 .ensures,
+  c .before .before .before .within89 .ensures,
+  c .before .before .within810 .ensures,
+  c .before .within811 .ensures,
+  c .within812 .ensures,
+)
 
 pub in-range-spec : {M : Type 1} → statement M
 in-range-spec =
     tie.close
     (tie.spec
-    Inv-loop
-    μ-loop
-    loop-holds
-    array-read-mask
-    mask-requires
     array-read-within8
     within8-requires
-    returns
-    add-k
-    loop-less
-    loop-again
-    returns-2)
+    array-read-within8-2
+    within8-requires-2
+    array-read-within8-3
+    within8-requires-3
+    array-read-within8-4
+    within8-requires-4
+    array-read-within8-5
+    within8-requires-5
+    array-read-within8-6
+    within8-requires-6
+    array-read-within8-7
+    within8-requires-7
+    array-read-within8-8
+    within8-requires-8
+    array-read-within8-9
+    within8-requires-9
+    array-read-within8-10
+    within8-requires-10
+    array-read-within8-11
+    within8-requires-11
+    array-read-within8-12
+    within8-requires-12
+    returns)

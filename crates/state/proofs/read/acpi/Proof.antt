@@ -10,14 +10,14 @@ maps-requires c κs = search needs
 levels-requires : tie.Need-levels-requires
 levels-requires c κs = search needs
 
-element-copy-out-t6 : tie.Need-element-copy-out-t6
-element-copy-out-t6 c = search needs
+shared-slice-read-t5 : tie.Need-shared-slice-read-t5
+shared-slice-read-t5 c = search needs
 
-element-copy-out-t9 : tie.Need-element-copy-out-t9
-element-copy-out-t9 c = search needs
+shared-slice-read-t7 : tie.Need-shared-slice-read-t7
+shared-slice-read-t7 c = search needs
 
-element-copy-out-t12 : tie.Need-element-copy-out-t12
-element-copy-out-t12 c = search needs
+shared-slice-read-t9 : tie.Need-shared-slice-read-t9
+shared-slice-read-t9 c = search needs
 
 word-requires : tie.Need-word-requires
 word-requires c κs = search needs
@@ -28,8 +28,8 @@ word-requires-2 c κs = search needs
 word-requires-3 : tie.Need-word-requires-3
 word-requires-3 c κs = search needs
 
-element-copy-out-t19 : tie.Need-element-copy-out-t19
-element-copy-out-t19 c = search needs
+shared-slice-read-t15 : tie.Need-shared-slice-read-t15
+shared-slice-read-t15 c = search needs
 
 word-requires-4 : tie.Need-word-requires-4
 word-requires-4 c κs = search needs
@@ -40,8 +40,8 @@ word-requires-5 c κs = search needs
 word-requires-6 : tie.Need-word-requires-6
 word-requires-6 c κs = search needs
 
-element-copy-out-t26 : tie.Need-element-copy-out-t26
-element-copy-out-t26 c = search needs
+shared-slice-read-t21 : tie.Need-shared-slice-read-t21
+shared-slice-read-t21 c = search needs
 
 long-requires : tie.Need-long-requires
 long-requires c κs = search needs
@@ -66,16 +66,16 @@ acpi-spec =
     (tie.spec
     maps-requires
     levels-requires
-    element-copy-out-t6
-    element-copy-out-t9
-    element-copy-out-t12
+    shared-slice-read-t5
+    shared-slice-read-t7
+    shared-slice-read-t9
     word-requires
     word-requires-2
     word-requires-3
-    element-copy-out-t19
+    shared-slice-read-t15
     word-requires-4
     word-requires-5
     word-requires-6
-    element-copy-out-t26
+    shared-slice-read-t21
     long-requires
     returns)

@@ -4,38 +4,38 @@ use borrow.Author.Needs.{needs}
 use Rattle.state.proofs.read.config.Statement.{statement}
 use Rattle.state.proofs.read.config.Tie as tie
 
-element-copy-out-t4 : tie.Need-element-copy-out-t4
-element-copy-out-t4 c = search needs
+shared-slice-read-t3 : tie.Need-shared-slice-read-t3
+shared-slice-read-t3 c = search needs
 
-element-copy-out-t8 : tie.Need-element-copy-out-t8
-element-copy-out-t8 c = search needs
+shared-slice-read-t6 : tie.Need-shared-slice-read-t6
+shared-slice-read-t6 c = search needs
 
-element-copy-out-t11 : tie.Need-element-copy-out-t11
-element-copy-out-t11 c = search needs
+shared-slice-read-t8 : tie.Need-shared-slice-read-t8
+shared-slice-read-t8 c = search needs
 
-element-copy-out-t14 : tie.Need-element-copy-out-t14
-element-copy-out-t14 c = search needs
+shared-slice-read-t10 : tie.Need-shared-slice-read-t10
+shared-slice-read-t10 c = search needs
 
-element-copy-out-pair : tie.Need-element-copy-out-pair
-element-copy-out-pair c = search needs
+shared-slice-read-pair : tie.Need-shared-slice-read-pair
+shared-slice-read-pair c = search needs
 
-element-copy-out-pair-2 : tie.Need-element-copy-out-pair-2
-element-copy-out-pair-2 c = search needs
+shared-slice-read-pair-2 : tie.Need-shared-slice-read-pair-2
+shared-slice-read-pair-2 c = search needs
 
 pair-requires : tie.Need-pair-requires
 pair-requires c κs = search needs
 
-element-copy-out-pair-3 : tie.Need-element-copy-out-pair-3
-element-copy-out-pair-3 c = search needs
+shared-slice-read-pair-3 : tie.Need-shared-slice-read-pair-3
+shared-slice-read-pair-3 c = search needs
 
-element-copy-out-pair-4 : tie.Need-element-copy-out-pair-4
-element-copy-out-pair-4 c = search needs
+shared-slice-read-pair-4 : tie.Need-shared-slice-read-pair-4
+shared-slice-read-pair-4 c = search needs
 
 pair-requires-2 : tie.Need-pair-requires-2
 pair-requires-2 c κs = search needs
 
-element-copy-out-t31 : tie.Need-element-copy-out-t31
-element-copy-out-t31 c = search needs
+shared-slice-read-t22 : tie.Need-shared-slice-read-t22
+shared-slice-read-t22 c = search needs
 
 returns : tie.Need-returns
 unfolding configAt
@@ -45,15 +45,15 @@ pub config-spec : {M : Type 1} → statement M
 config-spec =
     tie.close
     (tie.spec
-    element-copy-out-t4
-    element-copy-out-t8
-    element-copy-out-t11
-    element-copy-out-t14
-    element-copy-out-pair
-    element-copy-out-pair-2
+    shared-slice-read-t3
+    shared-slice-read-t6
+    shared-slice-read-t8
+    shared-slice-read-t10
+    shared-slice-read-pair
+    shared-slice-read-pair-2
     pair-requires
-    element-copy-out-pair-3
-    element-copy-out-pair-4
+    shared-slice-read-pair-3
+    shared-slice-read-pair-4
     pair-requires-2
-    element-copy-out-t31
+    shared-slice-read-t22
     returns)

@@ -20,8 +20,8 @@ loop-holds c = (omega arith, none-copied 32 9 (c .args .bytes .now))
 add-key : tie.Need-add-key Inv-loop μ-loop
 add-key c = omega arith
 
-element-copy-out-key : tie.Need-element-copy-out-key Inv-loop μ-loop
-element-copy-out-key c = omega arith
+shared-slice-read-key : tie.Need-shared-slice-read-key Inv-loop μ-loop
+shared-slice-read-key c = omega arith
 
 array-write-key : tie.Need-array-write-key Inv-loop μ-loop
 array-write-key c = omega arith
@@ -52,7 +52,7 @@ key-spec =
     μ-loop
     loop-holds
     add-key
-    element-copy-out-key
+    shared-slice-read-key
     array-write-key
     add-k
     loop-less

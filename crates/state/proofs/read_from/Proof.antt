@@ -1,8 +1,8 @@
--- `state::device_of` meets its contract: each block is read at its place. Assumes nothing.
+-- `state::read_from` meets its contract: each block is read at its place. Assumes nothing.
 use Rattle.state.specs.State.{loadedFrom}
 use borrow.Author.Needs.{needs}
-use Rattle.state.proofs.device_of.Statement.{statement}
-use Rattle.state.proofs.device_of.Tie as tie
+use Rattle.state.proofs.read_from.Statement.{statement}
+use Rattle.state.proofs.read_from.Tie as tie
 
 config-requires : tie.Need-config-requires
 config-requires c κs = search needs
@@ -29,7 +29,7 @@ returns c = rw (
   c .is-held .ensures,
 )
 
-pub device-of-spec : {M : Type 1} → statement M
-device-of-spec =
+pub read-from-spec : {M : Type 1} → statement M
+read-from-spec =
     tie.close
     (tie.spec config-requires key-requires monitor-requires acpi-requires is-held-requires returns)
