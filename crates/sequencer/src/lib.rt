@@ -253,10 +253,17 @@ fn run_words(
         if word::turns(word) {
             x = x.turned(word);
             steps = counted(steps);
+        } else if word.kind == word::DELAY {
+            chip = chip.happened(device::event::TICKS * device::event::KIND + word.value);
+            x.place = x.place + 1;
+            steps = counted(steps);
         } else {
-            let moved = running::reach(chip, x, word, events, log);
-            chip = moved.device;
-            x = moved.position;
+            let applied = running::next_applied(chip, events, x.taken);
+            let reached = applied.accessed(running::access_of(word));
+            let answer = reached.answer;
+            let next = reached.device;
+            chip = next;
+            x = x.answered(word, answer.value, events, log);
             steps = counted(steps);
         }
     }
