@@ -27,11 +27,11 @@ pub record Running : Type 0 where
   pub taken : ℕ
   pub logged : ℕ
 
-abbrev pub running : Device → Position → Running
-running d x = record {
+abbrev pub running : Device → Position → List ℕ → Running
+running d x cs = record {
   device = d;
   place = x .place;
-  counters = x .counters;
+  counters = cs;
   used = x .used;
   taken = x .taken;
   logged = x .logged;
@@ -65,9 +65,13 @@ Moves word events x y = (log : List ℕ) → Does word events x log y log
 abbrev pub TakesNone : Record → Running → Running → Type 0
 TakesNone word x y = (events : List ℕ) → Moves word events x y
 
--- and it leaves the device alone
-abbrev pub MovesAlone : Record → Position → Position → Type 0
-MovesAlone word x y = (d : Device) → TakesNone word (running d x) (running d y)
+-- and it leaves the device alone: the position and the counters move
+abbrev pub MovesAlone : Record → Position → List ℕ → Position → List ℕ → Type 0
+MovesAlone word x cs y cs' = (d : Device) → TakesNone word (running d x cs) (running d y cs')
+
+-- and the counters too
+abbrev pub MovesPlace : Record → Position → Position → Type 0
+MovesPlace word x y = (cs : List ℕ) → MovesAlone word x cs y cs
 
 -- what the words ask that move the position alone, and those that access the device: they are asked only of words without a fault
 pub record CanTurn (x : Position) (word : Record) : Type 0 where
@@ -87,15 +91,15 @@ accessOf r = cond (eqb (r .kind) 1) (writeOf (r .port) (r .width) (r .value)) (r
 -- behind the next event and the word's access, which gave the value: the rest of what the word does
 abbrev pub Answers : Record → ℕ → List ℕ → Position → List ℕ → Position → List ℕ → Type 0
 Answers word value events x log y log' =
-    (d arrived : Device) (r : Reached) → arrived ≡ nextApplied d (drop (x .taken) events)
+    (d arrived : Device) (cs : List ℕ) (r : Reached) → arrived ≡ nextApplied d (drop (x .taken) events)
     → r ≡ accessed arrived (accessOf word) → r .answer .value ≡ value
-    → Does word events (running d x) log (running (r .device) y) log'
+    → Does word events (running d x cs) log (running (r .device) y cs) log'
 
 -- ---- the start and the end of a run
 abbrev pub Starts : Sequencer → Position → Type 0
 Starts s x =
     (d : Device) (events lent : List ℕ)
-    → Holds (running d x) events lent lent (machine (s .place) (countersOf s) (startWorld d events))
+    → Holds (running d x (laid (countersOf s))) events lent lent (machine (s .place) (countersOf s) (startWorld d events))
 
 abbrev pub answer : (outcome steps : ℕ) → Running → Ran
 answer outcome steps x = record {

@@ -7,13 +7,12 @@ ghost use mathlib.Core.Path.{_≡_};
 ghost use Prim.Native.Nat.{_≤_, _<_};
 ghost use lib.ListN.{length, drop};
 ghost use Rattle.semantics.specs.World.{nextApplied, eventsBehind, readOf, writeOf};
-ghost use Rattle.sequencer.specs.Holds.{Answers, CanAccess, CanTurn, MovesAlone, accessOf};
+ghost use Rattle.sequencer.specs.Holds.{Answers, CanAccess, CanTurn, MovesAlone, MovesPlace, accessOf};
 
-// Where a run stands, beside its device: the next word, the counters in use, bottom first, in an array of their own, and how many
-// events are taken and values logged.
+// Where a run stands, beside its device and its counters: the next word, and how many counters are in use, events taken and values
+// logged.
 pub struct Position {
     pub place: u32,
-    pub counters: [u32; 8],
     pub used: usize,
     pub taken: usize,
     pub logged: usize,
@@ -71,62 +70,62 @@ pub fn access_of(word: Record) -> Access
     read_of(word)
 }
 
-// ---- words that move the position alone
+// ---- words that move the position and the counters alone
 
 impl Position {
     // Repeat 0 jumps and pushes no counter.
-    fn enter(mut self, word: Record) -> Self
+    fn enter(mut self, word: Record, counters: &mut [u32; 8]) -> Self
         requires { ⌜ (self .place < 4096) × (word .kind ≡ 4) × (8 ≤ self .used → word .value ≡ 0) ⌝ }
-        ensures { λ r. ⌜ MovesAlone word self r ⌝ }
+        ensures { λ r. ⌜ MovesAlone word self (now (counters .entry)) r (now (counters .exit)) ⌝ }
     {
         let used = self.used;
         if word.value == 0 {
             self.place = word.target;
             return self;
         }
-        self.counters[used] = word.value;
+        counters[used] = word.value;
         self.used = used + 1;
         self.place = self.place + 1;
         self
     }
 
     // A counter that comes to 0 is out of use.
-    fn loop_end(mut self, word: Record) -> Self
+    fn loop_end(mut self, word: Record, counters: &mut [u32; 8]) -> Self
         requires { ⌜ (self .place < 4096) × (word .kind ≡ 5) × (0 < self .used) × (self .used ≤ 8) ⌝ }
-        ensures { λ r. ⌜ MovesAlone word self r ⌝ }
+        ensures { λ r. ⌜ MovesAlone word self (now (counters .entry)) r (now (counters .exit)) ⌝ }
     {
         let top = self.used - 1;
-        let counter = self.counters[top];
+        let counter = counters[top];
         if counter <= 1 {
-            self.counters[top] = 0;
+            counters[top] = 0;
             self.used = top;
             self.place = self.place + 1;
             return self;
         }
-        self.counters[top] = counter - 1;
+        counters[top] = counter - 1;
         self.place = word.target;
         self
     }
 
     fn jump(mut self, word: Record) -> Self
         requires { ⌜ word .kind ≡ 7 ⌝ }
-        ensures { λ r. ⌜ MovesAlone word self r ⌝ }
+        ensures { λ r. ⌜ MovesPlace word self r ⌝ }
     {
         self.place = word.target;
         self
     }
 
     // An enter, a loop end or a jump.
-    pub fn turned(self, word: Record) -> Self
+    pub fn turned(self, word: Record, counters: &mut [u32; 8]) -> Self
         requires { ⌜ (self .place < 4096) × CanTurn self word ⌝ }
-        ensures { λ r. ⌜ MovesAlone word self r ⌝ }
+        ensures { λ r. ⌜ MovesAlone word self (now (counters .entry)) r (now (counters .exit)) ⌝ }
     {
         let kind = word.kind;
         if kind == word::ENTER {
-            return self.enter(word);
+            return self.enter(word, counters);
         }
         if kind == word::LOOP_END {
-            return self.loop_end(word);
+            return self.loop_end(word, counters);
         }
         self.jump(word)
     }

@@ -36,8 +36,8 @@ returns : tie.Need-returns
 returns c =
     let e = c .before .before .before .before .before in
     let t = c .before .before in
-    let k = c .before .if1 .taken in λ d arrived r a g v.
-    read-out (e .args .word) (running d (e .args .self)) (e .args .events .now) (e .args .log .now) r (t .taken-behind .result) (e .args .value) k
+    let k = c .before .if1 .taken in λ d arrived cs r a g v.
+    read-out (e .args .word) (running d (e .args .self) cs) (e .args .events .now) (e .args .log .now) r (t .taken-behind .result) (e .args .value) k
     (record {
       arrived = arrived;
       applied = a;
@@ -53,8 +53,8 @@ returns-2 : tie.Need-returns-2
 returns-2 c =
     let e = c .before .before .before .before .before .before in
     let t = c .before .before .before in
-    let k = c .before .if2 .taken in λ d arrived r a g v.
-    wrote (e .args .word) (running d (e .args .self)) (e .args .events .now) r (t .taken-behind .result) k
+    let k = c .before .if2 .taken in λ d arrived cs r a g v.
+    wrote (e .args .word) (running d (e .args .self) cs) (e .args .events .now) r (t .taken-behind .result) k
     (record {
       arrived = arrived;
       applied = a;
@@ -67,8 +67,8 @@ returns-3 : tie.Need-returns-3
 returns-3 c =
     let e = c .before .before .before .before .before .before .before in
     let t = c .before .before .before .before in
-    let k = c .before .before .before .before .before .before .before .pre .2 .tests (c .before .before .if2 .left) (c .before .before .before .if1 .left) in λ d arrived r a g v.
-    test-failed (e .args .word) (running d (e .args .self)) (e .args .events .now) r (t .taken-behind .result) (e .args .value) k
+    let k = c .before .before .before .before .before .before .before .pre .2 .tests (c .before .before .if2 .left) (c .before .before .before .if1 .left) in λ d arrived cs r a g v.
+    test-failed (e .args .word) (running d (e .args .self) cs) (e .args .events .now) r (t .taken-behind .result) (e .args .value) k
     (record {
       arrived = arrived;
       applied = a;
@@ -84,8 +84,8 @@ returns-4 : tie.Need-returns-4
 returns-4 c =
     let e = c .before .before .before .before .before .before .before .before in
     let t = c .before .before .before .before .before in
-    let k = c .before .before .before .before .before .before .before .before .pre .2 .tests (c .before .before .before .if2 .left) (c .before .before .before .before .if1 .left) in λ d arrived r a g v.
-    test-passed (e .args .word) (running d (e .args .self)) (e .args .events .now) r (t .taken-behind .result) (e .args .value) k
+    let k = c .before .before .before .before .before .before .before .before .pre .2 .tests (c .before .before .before .if2 .left) (c .before .before .before .before .if1 .left) in λ d arrived cs r a g v.
+    test-passed (e .args .word) (running d (e .args .self) cs) (e .args .events .now) r (t .taken-behind .result) (e .args .value) k
     (record {
       arrived = arrived;
       applied = a;
