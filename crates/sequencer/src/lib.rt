@@ -170,10 +170,10 @@ fn start(sequencer: Sequencer) -> Position
     ensures { λ r. ⌜ Starts sequencer r ⌝ }
 {
     Position {
-        place: sequencer.place,
         used: sequencer.used,
         taken: 0,
         logged: 0,
+        place: sequencer.place,
     }
 }
 
@@ -265,8 +265,8 @@ fn run_words(
             x.place = x.place + 1;
             steps = counted(steps);
         } else {
-            let applied = running::next_applied(chip, events, x.taken);
-            let reached = applied.accessed(running::access_of(word));
+            chip = running::next_applied(chip, events, x.taken);
+            let reached = chip.accessed(running::access_of(word));
             let answer = reached.answer;
             let next = reached.device;
             chip = next;

@@ -12,10 +12,10 @@ ghost use Rattle.sequencer.specs.Holds.{Answers, CanAccess, CanTurn, Mov
 // Where a run stands, beside its device and its counters: the next word, and how many counters are in use, events taken and values
 // logged.
 pub struct Position {
-    pub place: u32,
     pub used: usize,
     pub taken: usize,
     pub logged: usize,
+    pub place: u32,
 }
 
 // The device behind the next event, if there is one.
