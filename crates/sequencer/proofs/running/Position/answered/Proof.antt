@@ -1,6 +1,6 @@
 -- `sequencer::running::Position::answered` meets its contract. Assumes nothing.
 use Rattle.sequencer.specs.Holds.{running}
-use mathlib.Core.Path.{ap, sym, _∙_}
+use mathlib.Core.Path.{ap, _∙_}
 use mathlib.Core.Bool.{not}
 use native.Mathlib.Omega.{arith}
 use Rattle.device.specs.Reach.{accessed}
