@@ -31,7 +31,7 @@ use Rattle.semantics.specs.World.{
   writeOf,
   written,
 }
-use Rattle.sequencer.specs.Holds.{Does, Holds, Moves, Running, TakesNone}
+use Rattle.sequencer.specs.Holds.{Does, Holds, Moves, Running, TakesNone, accessOf}
 use Rattle.sequencer.specs.Sequencer.{laid}
 use Rattle.sequencer.specs.Step.{Machine, did, entered, looped, machine, testedBy}
 use Rattle.sequencer.proofs.Laid.{counter-pushed, counter-top, counter-set, counter-popped}
@@ -72,6 +72,12 @@ unfolding did
 did-jump r m k = rw k
 
 -- ---- an access behind the next event
+pub access-write : (r : Record) → r .kind ≡ 1 → accessOf r ≡ writeOf (r .port) (r .width) (r .value)
+access-write r k = rw k
+
+pub access-read : (r : Record) → (r .kind ≡ 1 → ⊥) → accessOf r ≡ readOf (r .port) (r .width)
+access-read r n = rw (ne-eqb (r .kind) 1 n)
+
 -- what the code has of it: the device behind the event, the answer, and the place in the list of events
 pub record Accessing (x : Running) (events : List ℕ) (a : Access) (r : Reached) (t : ℕ) : Type 0 where
   pub arrived : Device
@@ -129,21 +135,23 @@ wrote word x events r t k g = λ log lent m h.
 
 -- ---- a test
 pub test-passed :
-    (word : Record) (x : Running) (events : List ℕ) (r : Reached) (t : ℕ) → word .kind ≡ 6
-    → Accessing x events (readOf (word .port) (word .width)) r t → hasBit (word .value) (r .answer .value) ≡ true
+    (word : Record) (x : Running) (events : List ℕ) (r : Reached) (t v : ℕ) → word .kind ≡ 6
+    → Accessing x events (readOf (word .port) (word .width)) r t → r .answer .value ≡ v → hasBit (word .value) v ≡ true
     → Moves word events x (accessedTo x r (x .place + 1) t)
 unfolding tested sharesOne valueRead
-test-passed word x events r t k g b = λ log lent m h.
-    let s : sharesOne (word .port) (word .width) (word .value) (m .world) ≡ true = rw (same-answer h g) at b in
+test-passed word x events r t v k g e b = λ log lent m h.
+    let s : sharesOne (word .port) (word .width) (word .value) (m .world) ≡ true =
+    ap (hasBit (word .value)) (sym (ap (λ (y : Reached). y .answer .value) (same-answer h g)) ∙ e) ∙ b in
     rw (did-test word m k, s) (behind-access h g (add-one _ ∙ ap suc (h .place)))
 
 pub test-failed :
-    (word : Record) (x : Running) (events : List ℕ) (r : Reached) (t : ℕ) → word .kind ≡ 6
-    → Accessing x events (readOf (word .port) (word .width)) r t → hasBit (word .value) (r .answer .value) ≡ false
+    (word : Record) (x : Running) (events : List ℕ) (r : Reached) (t v : ℕ) → word .kind ≡ 6
+    → Accessing x events (readOf (word .port) (word .width)) r t → r .answer .value ≡ v → hasBit (word .value) v ≡ false
     → Moves word events x (accessedTo x r (word .target) t)
 unfolding tested sharesOne valueRead
-test-failed word x events r t k g b = λ log lent m h.
-    let s : sharesOne (word .port) (word .width) (word .value) (m .world) ≡ false = rw (same-answer h g) at b in
+test-failed word x events r t v k g e b = λ log lent m h.
+    let s : sharesOne (word .port) (word .width) (word .value) (m .world) ≡ false =
+    ap (hasBit (word .value)) (sym (ap (λ (y : Reached). y .answer .value) (same-answer h g)) ∙ e) ∙ b in
     rw (did-test word m k, s) (behind-access h g refl)
 
 -- ---- a read, which logs its value
@@ -170,14 +178,14 @@ logs values lent log n v e h l =
     rw (e, one-more values v) (stored values lent log v h (omega (arith, a, b, d, e, l)))
 
 pub read-out :
-    (word : Record) (x : Running) (events log : List ℕ) (r : Reached) (t : ℕ) → word .kind ≡ 2
-    → Accessing x events (readOf (word .port) (word .width)) r t → x .logged < length log
-    → Does word events x log (readTo x r t) (set log (x .logged) (r .answer .value))
+    (word : Record) (x : Running) (events log : List ℕ) (r : Reached) (t v : ℕ) → word .kind ≡ 2
+    → Accessing x events (readOf (word .port) (word .width)) r t → r .answer .value ≡ v → x .logged < length log
+    → Does word events x log (readTo x r t) (set log (x .logged) v)
 unfolding readLogged valueRead
-read-out word x events log r t k g l = λ lent m h.
+read-out word x events log r t v k g e l = λ lent m h.
     let s = same-answer h g in
-    let v : r .answer .value ≡ answerTo (m .world) (readOf (word .port) (word .width)) .answer .value =
-    ap (λ (y : Reached). y .answer .value) s in
+    let w : v ≡ answerTo (m .world) (readOf (word .port) (word .width)) .answer .value =
+    sym e ∙ ap (λ (y : Reached). y .answer .value) s in
     rw (did-read word m k)
     (record {
       device = ap (λ (y : Reached). y .device) s;
@@ -188,7 +196,7 @@ read-out word x events log r t k g l = λ lent m h.
       taken = same-left h g;
       inside = g .inside;
       logged = add-one _ ∙ ap suc (h .logged) ∙ sym (one-more (m .world .logged) _);
-      lines = rw v (logs (m .world .logged) lent log (x .logged) _ (h .logged) (h .lines) l);
+      lines = rw w (logs (m .world .logged) lent log (x .logged) _ (h .logged) (h .lines) l);
     })
 
 -- ---- words that take no event

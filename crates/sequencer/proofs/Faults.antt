@@ -10,7 +10,7 @@ use lib.ListN.{length}
 use Rattle.mask.proofs.Every.{and-left, and-right}
 use Rattle.record.specs.declared.Record.{Record}
 use Rattle.script.specs.Fields.{countFields}
-use Rattle.sequencer.specs.Holds.{CanReach, CanTurn, turns}
+use Rattle.sequencer.specs.Holds.{CanAccess, CanTurn, turns}
 use Rattle.sequencer.specs.declared.running.Position.{Position}
 use Rattle.sequencer.specs.Step.{aimsBeyond, ninthCounter, noCounter, logFull, wordFault}
 use Rattle.sequencer.specs.Word.{badWord, badWordKind, goodWordFields, wrongWordMark}
@@ -114,10 +114,10 @@ can-turn words room x r z few t =
       jumps = λ a b. eqb-true (r .kind) 7 (rw (ne-eqb (r .kind) 4 a, ne-eqb (r .kind) 5 b) at t);
     }
 
-pub can-reach :
+pub can-access :
     (words : ℕ) (x : Position) (r : Record) (log : List ℕ) → wordFault words (length log) (x .used) (x .logged) r ≡ 0
-    → turns r ≡ false → (r .kind ≡ 8 → ⊥) → CanReach x r log
-can-reach words x r log z t h =
+    → turns r ≡ false → (r .kind ≡ 8 → ⊥) → (r .kind ≡ 3 → ⊥) → CanAccess x r log
+can-access words x r log z t h n3 =
     let c = clean words (length log) (x .used) (x .logged) r z in
     let k = kind-known r (c .good) in
     let n4 = eqb-false (r .kind) 4 (or-left (eqb (r .kind) 4) _ t) in
@@ -126,7 +126,11 @@ can-reach words x r log z t h =
     let n7 = eqb-false (r .kind) 7 (or-right (eqb (r .kind) 5) _ rest) in
     record {
       reads = λ e. read-room (length log) (x .logged) r e (c .log-room);
-      delays = λ e. delay-value r e (c .good);
-      tests = λ n1 n2 n3.
+      tests = λ n1 n2.
           from-six (r .kind) (beyond 5 (r .kind) (beyond 4 (r .kind) (beyond 3 (r .kind) (beyond 2 (r .kind) (beyond 1 (r .kind) (k .0) n1) n2) n3) n4) n5) (k .1) n7 h;
     }
+
+pub can-delay :
+    (words room : ℕ) (x : Position) (r : Record) → wordFault words room (x .used) (x .logged) r ≡ 0 → r .kind ≡ 3
+    → r .value ≤ 65535
+can-delay words room x r z k = delay-value r k (clean words room (x .used) (x .logged) r z .good)

@@ -9,9 +9,11 @@ use lib.ListN.{length, length-drop}
 use Rattle.device.specs.declared.Device.{Device}
 use Rattle.record.specs.Record.{recordAt}
 use Rattle.record.specs.declared.Record.{Record}
+use Rattle.semantics.specs.World.{startWorld}
 use Rattle.sequencer.specs.Holds.{Does, EndsAs, Holds, Running, Starts, answer, running}
 use Rattle.sequencer.specs.Run.{Ended, ended, follow, imageRun, ran}
-use Rattle.sequencer.specs.Step.{Machine, did, faultAt, stepOf, taken, wordFault}
+use Rattle.sequencer.specs.Sequencer.{countersOf, laid}
+use Rattle.sequencer.specs.Step.{Machine, did, faultAt, machine, stepOf, taken, wordFault}
 use Rattle.sequencer.specs.Word.{imageWords, wordAt}
 use Rattle.sequencer.specs.declared.Ran.{Ran}
 use Rattle.sequencer.specs.declared.Sequencer.{Sequencer}
@@ -26,18 +28,20 @@ pub record Going (image : List ℕ) (whole : Ended) (events lent : List ℕ) (bu
   pub same : length log ≡ length lent
 
 pub starts :
-    (image : List ℕ) (d : Device) (s : Sequencer) (events lent : List ℕ) (budget : ℕ) (x : Position) → Starts s x
-    → Going image (imageRun image d s events budget (length lent)) events lent budget lent (running d x) 0
+    (image : List ℕ) (d : Device) (s : Sequencer) (events lent : List ℕ) (budget : ℕ) (x : Position) (cs : List ℕ) → Starts s x
+    → cs ≡ laid (countersOf s)
+    → Going image (imageRun image d s events budget (length lent)) events lent budget lent (running d x cs) 0
 unfolding imageRun
-starts image d s events lent budget x h =
+starts image d s events lent budget x cs h q =
     let e : budget - 0 ≡ budget = omega arith in
-    record {
-      machine = _;
+    rw q
+    (record {
+      machine = machine (s .place) (countersOf s) (startWorld d events);
       holds = h d events lent;
       rest = rw e;
       within = omega arith;
       same = refl;
-    }
+    })
 
 -- ---- how a run ends
 -- the code's answer is that of the machine which its state holds

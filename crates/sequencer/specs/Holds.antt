@@ -1,19 +1,21 @@
 -- The code's running state and the definitions' machine are the same thing.
 use Prim.Native.Nat.{ℕ, _≤_, _<_}
 use mathlib.Core.Path.{_≡_}
-use mathlib.Core.Bool.{Bool, _||_}
+use mathlib.Core.Bool.{Bool, cond, _||_}
 use mathlib.Core.List.{List}
 use lib.Dec.{eqb}
 use lib.ListN.{drop, length}
+use Rattle.access.specs.declared.Access.{Access}
+use Rattle.device.specs.Reach.{accessed}
 use Rattle.device.specs.declared.Device.{Device}
-use Rattle.semantics.specs.World.{startWorld}
+use Rattle.device.specs.declared.Reached.{Reached}
+use Rattle.semantics.specs.World.{nextApplied, readOf, startWorld, writeOf}
 use Rattle.record.specs.declared.Record.{Record}
 use Rattle.sequencer.specs.Run.{Ended, answerOf, filled}
 use Rattle.sequencer.specs.Sequencer.{countersOf, laid}
 use Rattle.sequencer.specs.Step.{Machine, did, machine}
 use Rattle.sequencer.specs.declared.Ran.{Ran}
 use Rattle.sequencer.specs.declared.Sequencer.{Sequencer}
-use Rattle.sequencer.specs.declared.running.Moved.{Moved}
 use Rattle.sequencer.specs.declared.running.Position.{Position}
 
 -- a run on its way: the device, and where it stands
@@ -25,18 +27,15 @@ pub record Running : Type 0 where
   pub taken : ℕ
   pub logged : ℕ
 
-abbrev pub running : Device → Position → Running
-running d x = record {
+abbrev pub running : Device → Position → List ℕ → Running
+running d x cs = record {
   device = d;
   place = x .place;
-  counters = x .counters;
+  counters = cs;
   used = x .used;
   taken = x .taken;
   logged = x .logged;
 }
-
-abbrev pub behind : Moved → Running
-behind r = running (r .device) (r .position)
 
 -- an enter, a loop end, a jump
 abbrev pub turns : Record → Bool
@@ -66,27 +65,41 @@ Moves word events x y = (log : List ℕ) → Does word events x log y log
 abbrev pub TakesNone : Record → Running → Running → Type 0
 TakesNone word x y = (events : List ℕ) → Moves word events x y
 
--- and it leaves the device alone
-abbrev pub MovesAlone : Record → Position → Position → Type 0
-MovesAlone word x y = (d : Device) → TakesNone word (running d x) (running d y)
+-- and it leaves the device alone: the position and the counters move
+abbrev pub MovesAlone : Record → Position → List ℕ → Position → List ℕ → Type 0
+MovesAlone word x cs y cs' = (d : Device) → TakesNone word (running d x cs) (running d y cs')
 
--- what the words ask that move the position alone, and those that reach the device: they are asked only of words without a fault
+-- and the counters too
+abbrev pub MovesPlace : Record → Position → Position → Type 0
+MovesPlace word x y = (cs : List ℕ) → MovesAlone word x cs y cs
+
+-- what the words ask that move the position alone, and those that access the device: they are asked only of words without a fault
 pub record CanTurn (x : Position) (word : Record) : Type 0 where
   pub enters : word .kind ≡ 4 → 8 ≤ x .used → word .value ≡ 0
   pub loops : word .kind ≡ 5 → 0 < x .used
   pub few : x .used ≤ 8
   pub jumps : (word .kind ≡ 4 → ⊥) → (word .kind ≡ 5 → ⊥) → word .kind ≡ 7
 
-pub record CanReach (x : Position) (word : Record) (log : List ℕ) : Type 0 where
+pub record CanAccess (x : Position) (word : Record) (log : List ℕ) : Type 0 where
   pub reads : word .kind ≡ 2 → x .logged < length log
-  pub delays : word .kind ≡ 3 → word .value ≤ 65535
-  pub tests : (word .kind ≡ 1 → ⊥) → (word .kind ≡ 2 → ⊥) → (word .kind ≡ 3 → ⊥) → word .kind ≡ 6
+  pub tests : (word .kind ≡ 1 → ⊥) → (word .kind ≡ 2 → ⊥) → word .kind ≡ 6
+
+-- ---- the words that access the device
+abbrev pub accessOf : Record → Access
+accessOf r = cond (eqb (r .kind) 1) (writeOf (r .port) (r .width) (r .value)) (readOf (r .port) (r .width))
+
+-- behind the next event and the word's access, which gave the value: the rest of what the word does
+abbrev pub Answers : Record → ℕ → List ℕ → Position → List ℕ → Position → List ℕ → Type 0
+Answers word value events x log y log' =
+    (d arrived : Device) (cs : List ℕ) (r : Reached) → arrived ≡ nextApplied d (drop (x .taken) events)
+    → r ≡ accessed arrived (accessOf word) → r .answer .value ≡ value
+    → Does word events (running d x cs) log (running (r .device) y cs) log'
 
 -- ---- the start and the end of a run
 abbrev pub Starts : Sequencer → Position → Type 0
 Starts s x =
     (d : Device) (events lent : List ℕ)
-    → Holds (running d x) events lent lent (machine (s .place) (countersOf s) (startWorld d events))
+    → Holds (running d x (laid (countersOf s))) events lent lent (machine (s .place) (countersOf s) (startWorld d events))
 
 abbrev pub answer : (outcome steps : ℕ) → Running → Ran
 answer outcome steps x = record {

@@ -8,7 +8,7 @@ ghost use mathlib.Core.Path.{_≡_};
 ghost use mathlib.Core.Bool.{true};
 ghost use Prim.Native.Nat.{_+_, _<_, _≤_};
 ghost use lib.ListN.{length};
-ghost use Rattle.sequencer.specs.Sequencer.{freshSequencer, counterInRange, sequencerInRange};
+ghost use Rattle.sequencer.specs.Sequencer.{freshSequencer, counterInRange, sequencerInRange, countersOf, laid};
 ghost use Rattle.sequencer.specs.Run.{
   badImage,
   badState,
@@ -164,34 +164,40 @@ fn refusal(image: &[u8], device: Device, sequencer: Sequencer, events: &[u32]) -
 
 // ---- the run
 
-// Where a run starts; the counters go into an array of the run's own.
+// Where a run starts.
 fn start(sequencer: Sequencer) -> Position
     requires { ⌜ sequencerInRange sequencer ≡ true ⌝ }
     ensures { λ r. ⌜ Starts sequencer r ⌝ }
 {
-    let given = sequencer.counters;
     Position {
-        place: sequencer.place,
-        counters: [
-            given[0],
-            given[1],
-            given[2],
-            given[3],
-            given[4],
-            given[5],
-            given[6],
-            given[7],
-        ],
         used: sequencer.used,
         taken: 0,
         logged: 0,
+        place: sequencer.place,
     }
 }
 
-fn ended(outcome: u32, steps: u32, device: Device, x: Position) -> Ran
-    ensures { λ r. ⌜ r ≡ answer outcome steps (running device x) ⌝ }
+// The counters, in an array of the run's own.
+fn counters_of(sequencer: Sequencer) -> [u32; 8]
+    requires { ⌜ sequencerInRange sequencer ≡ true ⌝ }
+    ensures { λ r. ⌜ r ≡ laid (countersOf sequencer) ⌝ }
 {
-    let counters = x.counters;
+    let given = sequencer.counters;
+    [
+        given[0],
+        given[1],
+        given[2],
+        given[3],
+        given[4],
+        given[5],
+        given[6],
+        given[7],
+    ]
+}
+
+fn ended(outcome: u32, steps: u32, device: Device, x: Position, counters: [u32; 8]) -> Ran
+    ensures { λ r. ⌜ r ≡ answer outcome steps (running device x counters) ⌝ }
+{
     let sequencer = Sequencer {
         place: x.place,
         counters,
@@ -237,30 +243,38 @@ fn run_words(
     let words = (image.len() / 12) as u32;
     let mut chip = device;
     let mut x = start(sequencer);
+    let mut counters = counters_of(sequencer);
     let mut steps: u32 = 0;
     while steps < budget {
         if words <= x.place {
-            return ended(PLACE_BEYOND, steps, chip, x);
+            return ended(PLACE_BEYOND, steps, chip, x, counters);
         }
         let word = record::read(image, 12 * index(x.place));
         let fault = word::fault(words, log.len(), x.used, x.logged, word);
         if fault != 0 {
-            return ended(fault, steps, chip, x);
+            return ended(fault, steps, chip, x, counters);
         }
         if word.kind == word::HALT {
-            return ended(HALTED, steps + 1, chip, x);
+            return ended(HALTED, steps + 1, chip, x, counters);
         }
         if word::turns(word) {
-            x = x.turned(word);
+            x = x.turned(word, &mut counters);
+            steps = counted(steps);
+        } else if word.kind == word::DELAY {
+            chip = chip.happened(device::event::TICKS * device::event::KIND + word.value);
+            x.place = x.place + 1;
             steps = counted(steps);
         } else {
-            let moved = running::reach(chip, x, word, events, log);
-            chip = moved.device;
-            x = moved.position;
+            chip = running::next_applied(chip, events, x.taken);
+            let reached = chip.accessed(running::access_of(word));
+            let answer = reached.answer;
+            let next = reached.device;
+            chip = next;
+            x = x.answered(word, answer.value, events, log);
             steps = counted(steps);
         }
     }
-    ended(BUDGET_SPENT, steps, chip, x)
+    ended(BUDGET_SPENT, steps, chip, x, counters)
 }
 
 // Runs an image from a sequencer's state: document 01's one run call. A lone step is a run with budget 1.

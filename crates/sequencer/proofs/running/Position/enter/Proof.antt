@@ -9,13 +9,13 @@ use Rattle.sequencer.proofs.running.Position.enter.Tie as tie
 returns : tie.Need-returns
 returns c = λ d.
     let e = c .before .before in
-    entered-none (e .args .word) (running d (e .args .t1)) (e .pre .1) (c .if1 .taken)
+    entered-none (e .args .word) (running d (e .args .self) (e .args .counters .now)) (e .pre .1) (c .if1 .taken)
 
-mul-self : tie.Need-mul-self
-mul-self c = omega (arith, room-left _ _ (c .before .before .pre .2) (c .if1 .left))
+mul-counters : tie.Need-mul-counters
+mul-counters c = omega (arith, room-left _ _ (c .before .before .pre .2) (c .if1 .left))
 
-element-write-self : tie.Need-element-write-self
-element-write-self c = room-left _ _ (c .before .before .pre .2) (c .if1 .left)
+element-write-counters : tie.Need-element-write-counters
+element-write-counters c = room-left _ _ (c .before .before .pre .2) (c .if1 .left)
 
 add-self : tie.Need-add-self
 add-self c = omega (arith, room-left _ _ (c .before .before .pre .2) (c .if1 .left))
@@ -25,8 +25,8 @@ add-self-2 c = search needs
 
 returns-2 : tie.Need-returns-2
 returns-2 c = λ d.
-    let e = c .before .before in
-    entered-pushed (e .args .word) (running d (e .args .t1)) (e .pre .1) (c .if1 .left) (room-left _ _ (e .pre .2) (c .if1 .left))
+    let e = c .before .before .before in
+    entered-pushed (e .args .word) (running d (e .args .self) (e .args .counters .now)) (e .pre .1) (c .before .if1 .left) (room-left _ _ (e .pre .2) (c .before .if1 .left))
 
 pub enter-spec : {M : Type 1} → statement M
-enter-spec = tie.close (tie.spec returns mul-self element-write-self add-self add-self-2 returns-2)
+enter-spec = tie.close (tie.spec returns mul-counters element-write-counters add-self add-self-2 returns-2)

@@ -5,8 +5,8 @@ use Rattle.sequencer.proofs.running.Position.jump.Statement.{statement}
 use Rattle.sequencer.proofs.running.Position.jump.Tie as tie
 
 returns : tie.Need-returns
-returns c = λ d.
-    jumped (c .args .word) (running d (c .args .self)) (c .pre)
+returns c = λ cs d.
+    jumped (c .args .word) (running d (c .args .self) cs) (c .pre)
 
 pub jump-spec : {M : Type 1} → statement M
 jump-spec = tie.close (tie.spec returns)

@@ -14,33 +14,33 @@ mul-counter c = search needs
 element-copy-out-counter : tie.Need-element-copy-out-counter
 element-copy-out-counter c = search needs
 
-mul-self : tie.Need-mul-self
-mul-self c = search needs
+mul-counters : tie.Need-mul-counters
+mul-counters c = search needs
 
-element-write-self : tie.Need-element-write-self
-element-write-self c = search needs
+element-write-counters : tie.Need-element-write-counters
+element-write-counters c = search needs
 
 add-self : tie.Need-add-self
 add-self c = search needs
 
 returns : tie.Need-returns
 returns c = λ d.
-    let e = c .before .before in
-    loop-over (e .args .word) (running d (e .args .t1)) (e .pre .1) (e .pre .2) (c .if1 .taken)
+    let e = c .before .before .before .before in
+    loop-over (e .args .word) (running d (e .args .self) (e .args .counters .now)) (e .pre .1) (e .pre .2) (c .before .if1 .taken)
 
-sub-self : tie.Need-sub-self
-sub-self c = search needs
+sub-counters : tie.Need-sub-counters
+sub-counters c = search needs
 
-mul-self-2 : tie.Need-mul-self-2
-mul-self-2 c = search needs
+mul-counters-2 : tie.Need-mul-counters-2
+mul-counters-2 c = search needs
 
-element-write-self-2 : tie.Need-element-write-self-2
-element-write-self-2 c = search needs
+element-write-counters-2 : tie.Need-element-write-counters-2
+element-write-counters-2 c = search needs
 
 returns-2 : tie.Need-returns-2
 returns-2 c = λ d.
-    let e = c .before .before in
-    loop-again (e .args .word) (running d (e .args .t1)) (e .pre .1) (e .pre .2) (c .if1 .left)
+    let e = c .before .before .before in
+    loop-again (e .args .word) (running d (e .args .self) (e .args .counters .now)) (e .pre .1) (e .pre .2) (c .if1 .left)
 
 pub loop-end-spec : {M : Type 1} → statement M
 loop-end-spec =
@@ -49,11 +49,11 @@ loop-end-spec =
     sub-top
     mul-counter
     element-copy-out-counter
-    mul-self
-    element-write-self
+    mul-counters
+    element-write-counters
     add-self
     returns
-    sub-self
-    mul-self-2
-    element-write-self-2
+    sub-counters
+    mul-counters-2
+    element-write-counters-2
     returns-2)
