@@ -38,25 +38,26 @@ ghost use Rattle.acpi.specs.Setup.{
 ghost use Rattle.acpi.specs.Settle.{pending, sciOn, smiOn, woken, settled};
 ghost use Rattle.acpi.specs.Happen.{ticked, mapped, pinned};
 
+// The arrays first and then the widest field, so that there is no gap: a struct is copied with its gaps.
 pub struct Acpi {
-    // P_CNT, the CPU state, SCI_EN.
-    pub pcnt: u8,
-    pub cpu: u8,
-    pub scien: bool,
-    // PM1a_STS, PM1a_EN, and the bits that PM1a_CNT stores.
+    // The map of each pin, which stands behind SETUP_DATA, and its level.
+    pub maps: [u16; 8],
+    pub levels: [bool; 8],
+    pub timer: u32,
+    // PM1a_STS, PM1a_EN, GPE0_STS, GPE0_EN, and the bits that PM1a_CNT stores.
     pub pm1sts: u16,
     pub pm1en: u16,
-    pub pm1cnt: u16,
-    pub sleeping: bool,
-    // SETUP_IDX; the map of each pin and the IRQ, which stand behind SETUP_DATA.
-    pub setupidx: u16,
     pub gpe0sts: u16,
     pub gpe0en: u16,
-    pub maps: [u16; 8],
+    pub pm1cnt: u16,
+    // SETUP_IDX
+    pub setupidx: u16,
+    // P_CNT, the CPU state, the IRQ, SCI_EN.
+    pub pcnt: u8,
+    pub cpu: u8,
     pub irq: u8,
-    pub timer: u32,
-    // The level of each pin.
-    pub levels: [bool; 8],
+    pub scien: bool,
+    pub sleeping: bool,
 }
 
 // An answer, or a status, and the block after the access.

@@ -1,16 +1,16 @@
 -- What a claim says of the port, and how large a base can be. Assumes nothing.
 use Prim.Native.Nat.{ℕ, _+_, _≤_, _<_}
 use mathlib.Core.Path.{_≡_, refl}
-use mathlib.Core.Bool.{Bool, true, false, cond, not, _&&_}
+use mathlib.Core.Bool.{Bool, true, false, cond, not, _&&_, _||_}
 use borrow.Author.Tests.{leb-true, ltb-true}
 use native.Mathlib.Omega.{arith}
 use lib.Bits.{and-le-r}
 use lib.Dec.{eqb, leb, ltb}
+use Rattle.access.specs.declared.Access.{Access}
 use Rattle.config.specs.Config.{keyBase, runtimeBase}
 use Rattle.config.specs.declared.Config.{Config}
 use Rattle.mask.proofs.Every.{and-left, and-right}
-use Rattle.device.specs.Owner.{isAcpi, isActive, isConfig, keyClaims, monitorClaims, owner}
-use Rattle.device.specs.declared.Device.{Device}
+use Rattle.device.specs.Owner.{isAcpi, isActive, isConfig, keyClaims, monitorClaims, owner, taker}
 
 pub runtime-at-most : (g : Config) → runtimeBase g ≤ 0xFF80
 runtime-at-most g = and-le-r (g .runtime) 0xFF80
@@ -22,13 +22,12 @@ pub acpi-claimed : (port : ℕ) → isAcpi port ≡ true → 0xAC00 ≤ port
 acpi-claimed port h = leb-true 0xAC00 port (and-left (leb 0xAC00 port) (leb port 0xAC1F) h)
 
 pub key-claimed :
-    (d : Device) (port : ℕ) → keyClaims d port ≡ true
-    → (keyBase (d .config) ≤ port) × (port < keyBase (d .config) + 32)
+    (g : Config) (port : ℕ) → keyClaims g port ≡ true → (keyBase g ≤ port) × (port < keyBase g + 32)
 unfolding keyClaims
-key-claimed d port h =
-    let base = keyBase (d .config) in
+key-claimed g port h =
+    let base = keyBase g in
     let within = leb base port && ltb port (base + 32) in
-    let w = and-right (not (eqb base 0)) within (and-right (isActive d) (not (eqb base 0) && within) h) in (
+    let w = and-right (not (eqb base 0)) within (and-right (isActive g) (not (eqb base 0) && within) h) in (
       leb-true base port (and-left (leb base port) (ltb port (base + 32)) w),
       ltb-true port (base + 32) (and-right (leb base port) (ltb port (base + 32)) w),
     )
@@ -41,11 +40,22 @@ first-is k false false true e h = (λ q. absurd (omega arith), λ q. absurd (ome
 first-is k false false false true h = (λ q. absurd (omega arith), λ q. refl)
 first-is k false false false false h = (λ q. absurd (omega arith), λ q. absurd (omega arith))
 
-pub acpi-owns : (d : Device) (port : ℕ) → owner d port ≡ 2 → 0xAC00 ≤ port
-unfolding owner
-acpi-owns d port h =
-    acpi-claimed port (first-is 2 (isConfig port) (isAcpi port) (monitorClaims d port) (keyClaims d port) h .0 refl)
+-- a block that takes an access owns its port
+taker-owns : (g : Config) (x : Access) (k : ℕ) → 0 < k → taker g x ≡ k → owner g (x .port) ≡ k
+unfolding taker
+taker-owns g x k l h = pick (eqb (owner g (x .port)) 2 || eqb (x .width) 1) h
+  where
+    pick : (b : Bool) → cond b (owner g (x .port)) 0 ≡ k → owner g (x .port) ≡ k
+    pick true e = e
+    pick false e = absurd (omega (arith, e))
 
-pub key-owns : (d : Device) (port : ℕ) → owner d port ≡ 4 → keyClaims d port ≡ true
+pub acpi-takes : (g : Config) (x : Access) → taker g x ≡ 2 → 0xAC00 ≤ x .port
 unfolding owner
-key-owns d port h = first-is 4 (isConfig port) (isAcpi port) (monitorClaims d port) (keyClaims d port) h .1 refl
+acpi-takes g x h =
+    acpi-claimed (x .port)
+    (first-is 2 (isConfig (x .port)) (isAcpi (x .port)) (monitorClaims g (x .port)) (keyClaims g (x .port)) (taker-owns g x 2 (omega arith) h) .0 refl)
+
+pub key-takes : (g : Config) (x : Access) → taker g x ≡ 4 → keyClaims g (x .port) ≡ true
+unfolding owner
+key-takes g x h =
+    first-is 4 (isConfig (x .port)) (isAcpi (x .port)) (monitorClaims g (x .port)) (keyClaims g (x .port)) (taker-owns g x 4 (omega arith) h) .1 refl

@@ -21,6 +21,7 @@ use Rattle.acpi.specs.Happen.{pinned, ticked}
 use Rattle.acpi.specs.Registers.{acpiRead, acpiWritten}
 use Rattle.acpi.specs.Settle.{settled}
 use Rattle.acpi.specs.declared.Acpi.{Acpi}
+use Rattle.acpi.specs.declared.Read.{Read}
 use Rattle.config.proofs.Range.{config-data-written, config-index-written, fresh-config}
 use Rattle.config.specs.Config.{
   configDataWritten,
@@ -30,6 +31,7 @@ use Rattle.config.specs.Config.{
   runtimeBase,
 }
 use Rattle.config.specs.declared.Config.{Config}
+use Rattle.config.specs.declared.key.Key.{Key}
 use Rattle.mask.proofs.Branch.{branch}
 use Rattle.mask.proofs.Every.{and-both, and-left, and-right}
 use Rattle.mask.proofs.Mask.{within-masked}
@@ -49,6 +51,7 @@ use Rattle.device.specs.Device.{
   settledDevice,
   withAcpi,
   withConfig,
+  withKey,
   withMonitor,
 }
 use Rattle.device.specs.Event.{
@@ -61,11 +64,10 @@ use Rattle.device.specs.Event.{
   vccReset,
   vtrReset,
 }
-use Rattle.device.specs.Owner.{owner}
+use Rattle.device.specs.Owner.{taker}
 use Rattle.device.specs.Reach.{
   accessed,
   acpiReached,
-  byteReached,
   configReached,
   keyReached,
   monitorReached,
@@ -73,6 +75,8 @@ use Rattle.device.specs.Reach.{
 }
 use Rattle.device.specs.declared.Device.{Device}
 use Rattle.device.specs.declared.Reached.{Reached}
+use Rattle.device.specs.declared.reach.ConfigReached.{ConfigReached}
+use Rattle.device.specs.declared.reach.MonitorReached.{MonitorReached}
 
 -- ---- block by block
 together : (d : Device) → configInRange (d .config) ≡ true → monitorInRange (d .monitor) ≡ true
@@ -91,6 +95,16 @@ Kept d = deviceInRange d ≡ true
 
 abbrev KeptReached : Reached → Type 0
 KeptReached r = Kept (r .device)
+
+-- so is each block
+abbrev KeptConfig : ConfigReached → Type 0
+KeptConfig r = configInRange (r .config) ≡ true
+
+abbrev KeptAcpi : Read → Type 0
+KeptAcpi r = acpiInRange (r .acpi) ≡ true
+
+abbrev KeptMonitor : MonitorReached → Type 0
+KeptMonitor r = monitorInRange (r .monitor) ≡ true
 
 module _ (d : Device) (h : deviceInRange d ≡ true) where
   pub config-in-range : configInRange (d .config) ≡ true
@@ -123,58 +137,39 @@ module _ (d : Device) (h : deviceInRange d ≡ true) where
 
   -- ---- an access
   module _ (x : Access) where
-    config-reached : KeptReached (configReached d x)
+    config-reached : configInRange (configReached (d .config) x .config) ≡ true
     unfolding configReached
     config-reached =
-        branch KeptReached (eqb (x .port) 0x002E)
-        (branch KeptReached (x .write)
-        (kept-config (configIndexWritten (d .config) (x .value % 256) .config)
-        (config-index-written (d .config) (x .value % 256) config-in-range))
-        h)
-        (branch KeptReached (x .write)
-        (kept-config (configDataWritten (d .config) (x .value % 256) .config)
-        (config-data-written (d .config) (x .value % 256) config-in-range))
-        h)
+        branch KeptConfig (eqb (x .port) 0x002E)
+        (branch KeptConfig (x .write) (config-index-written (d .config) (x .value % 256) config-in-range) config-in-range)
+        (branch KeptConfig (x .write) (config-data-written (d .config) (x .value % 256) config-in-range) config-in-range)
 
-    acpi-reached : KeptReached (acpiReached d x)
+    acpi-reached : acpiInRange (acpiReached (d .acpi) x .acpi) ≡ true
     unfolding acpiReached
     acpi-reached =
-        branch KeptReached (x .write)
-        (kept-acpi (acpiWritten (d .acpi) (x .port - 0xAC00) (x .width) (x .value) .acpi)
-        (acpi-written (d .acpi) acpi-in-range (x .port - 0xAC00) (x .width) (x .value)))
-        (kept-acpi (acpiRead (d .acpi) (x .port - 0xAC00) (x .width) .acpi)
-        (acpi-read (d .acpi) acpi-in-range (x .port - 0xAC00) (x .width)))
+        branch KeptAcpi (x .write)
+        (acpi-written (d .acpi) acpi-in-range (x .port - 0xAC00) (x .width) (x .value))
+        (acpi-read (d .acpi) acpi-in-range (x .port - 0xAC00) (x .width))
 
-    monitor-reached : KeptReached (monitorReached d x)
+    monitor-reached : monitorInRange (monitorReached (d .config) (d .monitor) x .monitor) ≡ true
     unfolding monitorReached
     monitor-reached =
-        branch KeptReached (eqb (x .port) (runtimeBase (d .config) + 0x70))
-        (branch KeptReached (x .write)
-        (kept-monitor (monitorIndexWritten (d .monitor) (x .value % 256))
-        (monitor-index-written (d .monitor) monitor-in-range (x .value % 256)))
-        h)
-        (branch KeptReached (x .write)
-        (kept-monitor (monitorDataWritten (d .monitor) (x .value % 256) .monitor)
-        (monitor-data-written (d .monitor) monitor-in-range (x .value % 256)))
-        h)
+        branch KeptMonitor (eqb (x .port) (runtimeBase (d .config) + 0x70))
+        (branch KeptMonitor (x .write) (monitor-index-written (d .monitor) monitor-in-range (x .value % 256)) monitor-in-range)
+        (branch KeptMonitor (x .write) (monitor-data-written (d .monitor) monitor-in-range (x .value % 256)) monitor-in-range)
 
     -- key bytes take any value
-    key-reached : KeptReached (keyReached d x)
-    unfolding keyReached deviceInRange
-    key-reached = branch KeptReached (x .write) h h
-
-    byte-reached : KeptReached (byteReached d x)
-    unfolding byteReached
-    byte-reached =
-        branch KeptReached (eqb (owner d (x .port)) 1) config-reached
-        (branch KeptReached (eqb (owner d (x .port)) 3) monitor-reached
-        (branch KeptReached (eqb (owner d (x .port)) 4) key-reached h))
+    kept-key : (k : Key) → Kept (withKey d k)
+    kept-key k = together (withKey d k) config-in-range monitor-in-range acpi-in-range
 
     kept-reached : KeptReached (reached d x)
     unfolding reached
     kept-reached =
-        branch KeptReached (eqb (owner d (x .port)) 2) acpi-reached
-        (branch KeptReached (eqb (x .width) 1) byte-reached h)
+        branch KeptReached (eqb (taker (d .config) x) 1) (kept-config (configReached (d .config) x .config) config-reached)
+        (branch KeptReached (eqb (taker (d .config) x) 2) (kept-acpi (acpiReached (d .acpi) x .acpi) acpi-reached)
+        (branch KeptReached (eqb (taker (d .config) x) 3)
+        (kept-monitor (monitorReached (d .config) (d .monitor) x .monitor) monitor-reached)
+        (branch KeptReached (eqb (taker (d .config) x) 4) (kept-key (keyReached (d .config) (d .key) x .key)) h)))
 
   -- ---- an event
   kept-reset : (operand : ℕ) → Kept (resetBy d operand)

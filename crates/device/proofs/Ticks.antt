@@ -9,6 +9,7 @@ use Rattle.acpi.proofs.Ticks.{ticks}
 use Rattle.acpi.specs.Happen.{ticked}
 use Rattle.acpi.specs.Settle.{settled}
 use Rattle.acpi.specs.Times.{times}
+use Rattle.acpi.specs.declared.Acpi.{Acpi}
 use Rattle.device.proofs.Range.{acpi-in-range}
 use Rattle.device.specs.Device.{deviceInRange, settledDevice, withAcpi}
 use Rattle.device.specs.Event.{happened, kindOf, moved, operandOf}
@@ -21,6 +22,11 @@ ticks-happened d n l =
     let k : kindOf (2 ^ 24 + n) ≡ 1 = omega arith in
     let o : operandOf (2 ^ 24 + n) ≡ n = omega arith in
     ap (λ (i : ℕ). settledDevice (moved d i (operandOf (2 ^ 24 + n)))) k ∙ ap (λ (i : ℕ). settledDevice (moved d 1 i)) o
+
+-- as the code has it: the block ticks, and settles
+pub delays : (d : Device) (n : ℕ) → n ≤ 65535 → {a b : Acpi} → a ≡ ticked (d .acpi) n → b ≡ settled a
+    → withAcpi d b ≡ happened d (2 ^ 24 + n)
+delays d n l p q = ap (withAcpi d) (q ∙ ap settled p) ∙ sym (ticks-happened d n l)
 
 singles : (d : Device) (n : ℕ)
     → times n (λ e. happened e (2 ^ 24 + 1)) d ≡ withAcpi d (times n (λ b. settled (ticked b 1)) (d .acpi))

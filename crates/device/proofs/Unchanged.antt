@@ -6,16 +6,20 @@ use lib.Dec.{eqb}
 use Rattle.access.specs.Status.{readGives}
 use Rattle.access.specs.declared.Access.{Access}
 use Rattle.acpi.proofs.Unchanged.{read-kept, written-kept}
+use Rattle.acpi.specs.declared.Acpi.{Acpi}
+use Rattle.acpi.specs.declared.Read.{Read}
 use Rattle.config.proofs.Unchanged.{data-kept, index-kept, key-kept}
 use Rattle.config.specs.Config.{keyBase, runtimeBase}
+use Rattle.config.specs.declared.Config.{Config}
+use Rattle.config.specs.declared.key.Key.{Key}
 use Rattle.mask.proofs.Branch.{branch}
 use Rattle.monitor.proofs.Unchanged.{data-kept as monitor-kept}
+use Rattle.monitor.specs.declared.Monitor.{Monitor}
 use Rattle.device.specs.Device.{settledDevice, withAcpi, withConfig, withKey, withMonitor}
-use Rattle.device.specs.Owner.{owner}
+use Rattle.device.specs.Owner.{taker}
 use Rattle.device.specs.Reach.{
   accessed,
   acpiReached,
-  byteReached,
   configReached,
   keyReached,
   monitorReached,
@@ -23,50 +27,58 @@ use Rattle.device.specs.Reach.{
 }
 use Rattle.device.specs.declared.Device.{Device}
 use Rattle.device.specs.declared.Reached.{Reached}
+use Rattle.device.specs.declared.reach.ConfigReached.{ConfigReached}
+use Rattle.device.specs.declared.reach.KeyReached.{KeyReached}
+use Rattle.device.specs.declared.reach.MonitorReached.{MonitorReached}
 
 -- done, or nothing is changed
 abbrev pub Kept : Device → Reached → Type 0
 Kept d r = (r .answer .status ≡ 0 → ⊥) → r .device ≡ d
 
-config-kept : (d : Device) (x : Access) → Kept d (configReached d x)
+abbrev KeptConfig : Config → ConfigReached → Type 0
+KeptConfig g r = (r .answer .status ≡ 0 → ⊥) → r .config ≡ g
+
+config-kept : (g : Config) (x : Access) → KeptConfig g (configReached g x)
 unfolding configReached
-config-kept d x =
-    branch (Kept d) (eqb (x .port) 0x002E)
-    (branch (Kept d) (x .write) (λ n. ap (withConfig d) (index-kept (d .config) (x .value % 256) n)) (λ n. refl))
-    (branch (Kept d) (x .write) (λ n. ap (withConfig d) (data-kept (d .config) (x .value % 256) n)) (λ n. refl))
+config-kept g x =
+    branch (KeptConfig g) (eqb (x .port) 0x002E)
+    (branch (KeptConfig g) (x .write) (λ n. index-kept g (x .value % 256) n) (λ n. refl))
+    (branch (KeptConfig g) (x .write) (λ n. data-kept g (x .value % 256) n) (λ n. refl))
 
-acpi-kept : (d : Device) (x : Access) → Kept d (acpiReached d x)
+abbrev KeptAcpi : Acpi → Read → Type 0
+KeptAcpi a r = (r .answer .status ≡ 0 → ⊥) → r .acpi ≡ a
+
+acpi-kept : (a : Acpi) (x : Access) → KeptAcpi a (acpiReached a x)
 unfolding acpiReached
-acpi-kept d x =
-    branch (Kept d) (x .write)
-    (λ n. ap (withAcpi d) (written-kept (d .acpi) (x .port - 0xAC00) (x .width) (x .value) n))
-    (λ n. ap (withAcpi d) (read-kept (d .acpi) (x .port - 0xAC00) (x .width) n))
+acpi-kept a x =
+    branch (KeptAcpi a) (x .write) (λ n. written-kept a (x .port - 0xAC00) (x .width) (x .value) n)
+    (λ n. read-kept a (x .port - 0xAC00) (x .width) n)
 
-monitor-data-kept : (d : Device) (x : Access) → Kept d (monitorReached d x)
+abbrev KeptMonitor : Monitor → MonitorReached → Type 0
+KeptMonitor m r = (r .answer .status ≡ 0 → ⊥) → r .monitor ≡ m
+
+monitor-data-kept : (g : Config) (m : Monitor) (x : Access) → KeptMonitor m (monitorReached g m x)
 unfolding monitorReached
-monitor-data-kept d x =
-    branch (Kept d) (eqb (x .port) (runtimeBase (d .config) + 0x70))
-    (branch (Kept d) (x .write) (λ n. absurd (n refl)) (λ n. refl))
-    (branch (Kept d) (x .write) (λ n. ap (withMonitor d) (monitor-kept (d .monitor) (x .value % 256) n)) (λ n. refl))
+monitor-data-kept g m x =
+    branch (KeptMonitor m) (eqb (x .port) (runtimeBase g + 0x70))
+    (branch (KeptMonitor m) (x .write) (λ n. absurd (n refl)) (λ n. refl))
+    (branch (KeptMonitor m) (x .write) (λ n. monitor-kept m (x .value % 256) n) (λ n. refl))
 
-key-bytes-kept : (d : Device) (x : Access) → Kept d (keyReached d x)
+abbrev KeptKey : Key → KeyReached → Type 0
+KeptKey k r = (r .answer .status ≡ 0 → ⊥) → r .key ≡ k
+
+key-bytes-kept : (g : Config) (k : Key) (x : Access) → KeptKey k (keyReached g k x)
 unfolding keyReached
-key-bytes-kept d x =
-    branch (Kept d) (x .write)
-    (λ n. ap (withKey d) (key-kept (d .key) (d .config .control) (x .port - keyBase (d .config)) (x .value % 256) n)) (λ n. refl)
-
-byte-kept : (d : Device) (x : Access) → Kept d (byteReached d x)
-unfolding byteReached
-byte-kept d x =
-    branch (Kept d) (eqb (owner d (x .port)) 1) (config-kept d x)
-    (branch (Kept d) (eqb (owner d (x .port)) 3) (monitor-data-kept d x)
-    (branch (Kept d) (eqb (owner d (x .port)) 4) (key-bytes-kept d x) (λ n. refl)))
+key-bytes-kept g k x =
+    branch (KeptKey k) (x .write) (λ n. key-kept k (g .control) (x .port - keyBase g) (x .value % 256) n) (λ n. refl)
 
 reached-kept : (d : Device) (x : Access) → Kept d (reached d x)
 unfolding reached
 reached-kept d x =
-    branch (Kept d) (eqb (owner d (x .port)) 2) (acpi-kept d x)
-    (branch (Kept d) (eqb (x .width) 1) (byte-kept d x) (λ n. refl))
+    branch (Kept d) (eqb (taker (d .config) x) 1) (λ n. ap (withConfig d) (config-kept (d .config) x n))
+    (branch (Kept d) (eqb (taker (d .config) x) 2) (λ n. ap (withAcpi d) (acpi-kept (d .acpi) x n))
+    (branch (Kept d) (eqb (taker (d .config) x) 3) (λ n. ap (withMonitor d) (monitor-data-kept (d .config) (d .monitor) x n))
+    (branch (Kept d) (eqb (taker (d .config) x) 4) (λ n. ap (withKey d) (key-bytes-kept (d .config) (d .key) x n)) (λ n. refl))))
 
 -- the status answered is the status reached, for a write and a read alike
 pub accessed-unchanged :

@@ -1,11 +1,14 @@
 -- Document 01, "What the chip model holds": an access, answered by the owner of its port, and settled.
-use Prim.Native.Nat.{ℕ, _+_, _-_, _%_}
+use Prim.Native.Nat.{_+_, _-_, _%_}
 use mathlib.Core.Bool.{cond}
 use lib.Dec.{eqb}
 use Rattle.access.specs.Status.{bare, done, readGives}
 use Rattle.access.specs.declared.Access.{Access}
 use Rattle.access.specs.declared.Answer.{Answer}
+use Rattle.acpi.specs.Block.{read}
 use Rattle.acpi.specs.Registers.{acpiRead, acpiWritten}
+use Rattle.acpi.specs.declared.Acpi.{Acpi}
+use Rattle.acpi.specs.declared.Read.{Read}
 use Rattle.config.specs.Config.{
   configDataRead,
   configDataWritten,
@@ -15,65 +18,85 @@ use Rattle.config.specs.Config.{
   runtimeBase,
 }
 use Rattle.config.specs.Key.{keyRead, keyWritten}
+use Rattle.config.specs.declared.Config.{Config}
+use Rattle.config.specs.declared.key.Key.{Key}
 use Rattle.monitor.specs.Monitor.{monitorDataRead, monitorDataWritten, monitorIndexWritten}
+use Rattle.monitor.specs.declared.Monitor.{Monitor}
 use Rattle.device.specs.Device.{settledDevice, withAcpi, withConfig, withKey, withMonitor}
-use Rattle.device.specs.Owner.{owner}
+use Rattle.device.specs.Owner.{taker}
 use Rattle.device.specs.declared.Device.{Device}
 use Rattle.device.specs.declared.Reached.{Reached}
+use Rattle.device.specs.declared.reach.ConfigReached.{ConfigReached}
+use Rattle.device.specs.declared.reach.KeyReached.{KeyReached}
+use Rattle.device.specs.declared.reach.MonitorReached.{MonitorReached}
 
+-- ---- each block's answer, and the block after it; a byte is what a write of width 1 writes
+abbrev pub configAnswers : Answer → Config → ConfigReached
+configAnswers r g = record { answer = r; config = g }
+
+unfoldable pub configReached : Config → Access → ConfigReached
+configReached g x =
+    cond (eqb (x .port) 0x002E)
+    (cond (x .write)
+    (configAnswers (bare (configIndexWritten g (x .value % 256) .status)) (configIndexWritten g (x .value % 256) .config))
+    (configAnswers (configIndexRead g) g))
+    (cond (x .write)
+    (configAnswers (bare (configDataWritten g (x .value % 256) .status)) (configDataWritten g (x .value % 256) .config))
+    (configAnswers (configDataRead g) g))
+
+unfoldable pub acpiReached : Acpi → Access → Read
+acpiReached a x =
+    cond (x .write)
+    (read (bare (acpiWritten a (x .port - 0xAC00) (x .width) (x .value) .status))
+    (acpiWritten a (x .port - 0xAC00) (x .width) (x .value) .acpi))
+    (acpiRead a (x .port - 0xAC00) (x .width))
+
+-- "One byte index, readable, and data."
+abbrev pub monitorAnswers : Answer → Monitor → MonitorReached
+monitorAnswers r m = record { answer = r; monitor = m }
+
+unfoldable pub monitorReached : Config → Monitor → Access → MonitorReached
+monitorReached g m x =
+    cond (eqb (x .port) (runtimeBase g + 0x70))
+    (cond (x .write) (monitorAnswers (bare 0) (monitorIndexWritten m (x .value % 256)))
+    (monitorAnswers (done (m .index)) m))
+    (cond (x .write)
+    (monitorAnswers (bare (monitorDataWritten m (x .value % 256) .status)) (monitorDataWritten m (x .value % 256) .monitor))
+    (monitorAnswers (monitorDataRead m) m))
+
+abbrev pub keyAnswers : Answer → Key → KeyReached
+keyAnswers r k = record { answer = r; key = k }
+
+unfoldable pub keyReached : Config → Key → Access → KeyReached
+keyReached g k x =
+    cond (x .write)
+    (keyAnswers (bare (keyWritten k (g .control) (x .port - keyBase g) (x .value % 256) .status))
+    (keyWritten k (g .control) (x .port - keyBase g) (x .value % 256) .key))
+    (keyAnswers (keyRead k (g .control) (x .port - keyBase g)) k)
+
+-- ---- the device's: its answer, and the device with the block that answered
 abbrev pub reach : Answer → Device → Reached
 reach r d = record { answer = r; device = d }
 
--- ---- each block's answer, and the device with the block after it; a byte is what a write of width 1 writes
-unfoldable pub configReached : Device → Access → Reached
-configReached d x =
-    cond (eqb (x .port) 0x002E)
-    (cond (x .write)
-    (reach (bare (configIndexWritten (d .config) (x .value % 256) .status))
-    (withConfig d (configIndexWritten (d .config) (x .value % 256) .config)))
-    (reach (configIndexRead (d .config)) d))
-    (cond (x .write)
-    (reach (bare (configDataWritten (d .config) (x .value % 256) .status))
-    (withConfig d (configDataWritten (d .config) (x .value % 256) .config)))
-    (reach (configDataRead (d .config)) d))
+abbrev pub byConfig : Device → ConfigReached → Reached
+byConfig d r = reach (r .answer) (withConfig d (r .config))
 
-unfoldable pub acpiReached : Device → Access → Reached
-acpiReached d x =
-    cond (x .write)
-    (reach (bare (acpiWritten (d .acpi) (x .port - 0xAC00) (x .width) (x .value) .status))
-    (withAcpi d (acpiWritten (d .acpi) (x .port - 0xAC00) (x .width) (x .value) .acpi)))
-    (reach (acpiRead (d .acpi) (x .port - 0xAC00) (x .width) .answer)
-    (withAcpi d (acpiRead (d .acpi) (x .port - 0xAC00) (x .width) .acpi)))
+abbrev pub byAcpi : Device → Read → Reached
+byAcpi d r = reach (r .answer) (withAcpi d (r .acpi))
 
--- "One byte index, readable, and data."
-unfoldable pub monitorReached : Device → Access → Reached
-monitorReached d x =
-    cond (eqb (x .port) (runtimeBase (d .config) + 0x70))
-    (cond (x .write) (reach (bare 0) (withMonitor d (monitorIndexWritten (d .monitor) (x .value % 256))))
-    (reach (done (d .monitor .index)) d))
-    (cond (x .write)
-    (reach (bare (monitorDataWritten (d .monitor) (x .value % 256) .status))
-    (withMonitor d (monitorDataWritten (d .monitor) (x .value % 256) .monitor)))
-    (reach (monitorDataRead (d .monitor)) d))
+abbrev pub byMonitor : Device → MonitorReached → Reached
+byMonitor d r = reach (r .answer) (withMonitor d (r .monitor))
 
-unfoldable pub keyReached : Device → Access → Reached
-keyReached d x =
-    cond (x .write)
-    (reach (bare (keyWritten (d .key) (d .config .control) (x .port - keyBase (d .config)) (x .value % 256) .status))
-    (withKey d (keyWritten (d .key) (d .config .control) (x .port - keyBase (d .config)) (x .value % 256) .key)))
-    (reach (keyRead (d .key) (d .config .control) (x .port - keyBase (d .config))) d)
+abbrev pub byKey : Device → KeyReached → Reached
+byKey d r = reach (r .answer) (withKey d (r .key))
 
--- "Blocks 1, 3 and 4 take width 1 only, else status 1."; status 1 is also "nobody claims"
-unfoldable pub byteReached : Device → Access → Reached
-byteReached d x =
-    cond (eqb (owner d (x .port)) 1) (configReached d x)
-    (cond (eqb (owner d (x .port)) 3) (monitorReached d x)
-    (cond (eqb (owner d (x .port)) 4) (keyReached d x) (reach (bare 1) d)))
-
--- "The first owner answers; nothing is passed on."
+-- "The first owner answers; nothing is passed on." Status 1: "nobody claims, or the owner doesn't take it"
 unfoldable pub reached : Device → Access → Reached
 reached d x =
-    cond (eqb (owner d (x .port)) 2) (acpiReached d x) (cond (eqb (x .width) 1) (byteReached d x) (reach (bare 1) d))
+    cond (eqb (taker (d .config) x) 1) (byConfig d (configReached (d .config) x))
+    (cond (eqb (taker (d .config) x) 2) (byAcpi d (acpiReached (d .acpi) x))
+    (cond (eqb (taker (d .config) x) 3) (byMonitor d (monitorReached (d .config) (d .monitor) x))
+    (cond (eqb (taker (d .config) x) 4) (byKey d (keyReached (d .config) (d .key) x)) (reach (bare 1) d))))
 
 -- what is answered: "A write's value answer is 0."; a read gives what its status says
 abbrev pub answered : Access → Answer → Answer

@@ -3,6 +3,7 @@ pub mod running;
 pub mod word;
 
 use crate::running::Position;
+use access::Answer;
 use device::Device;
 ghost use mathlib.Core.Path.{_≡_};
 ghost use mathlib.Core.Bool.{true};
@@ -261,16 +262,52 @@ fn run_words(
             x = x.turned(word, &mut counters);
             steps = counted(steps);
         } else if word.kind == word::DELAY {
-            chip = chip.happened(device::event::TICKS * device::event::KIND + word.value);
+            let acpi = chip.acpi;
+            let ticked = acpi.tick(word.value);
+            let settled = ticked.settled();
+            chip.acpi = settled;
             x.place = x.place + 1;
             steps = counted(steps);
         } else {
-            chip = running::next_applied(chip, events, x.taken);
-            let reached = chip.accessed(running::access_of(word));
-            let answer = reached.answer;
-            let next = reached.device;
-            chip = next;
-            x = x.answered(word, answer.value, events, log);
+            let taken = x.taken;
+            if taken < events.len() {
+                chip = chip.happened(events[taken]);
+            }
+            let access = running::access_of(word);
+            let config = chip.config;
+            let taker = device::owner::taker(config, access);
+            let mut answer = Answer::bare(Answer::UNCLAIMED);
+            if taker == Device::CONFIGURATION {
+                let r = device::reach::config_reached(config, access);
+                let next = r.config;
+                chip.config = next;
+                answer = r.answer;
+            } else if taker == Device::ACPI {
+                let acpi = chip.acpi;
+                let r = device::reach::acpi_reached(acpi, access);
+                let next = r.acpi;
+                chip.acpi = next;
+                answer = r.answer;
+            } else if taker == Device::MONITOR {
+                let monitor = chip.monitor;
+                let r = device::reach::monitor_reached(config, monitor, access);
+                let next = r.monitor;
+                chip.monitor = next;
+                answer = r.answer;
+            } else if taker == Device::KEY {
+                let key = chip.key;
+                let r = device::reach::key_reached(config, key, access);
+                let next = r.key;
+                chip.key = next;
+                answer = r.answer;
+            }
+            let acpi = chip.acpi;
+            if acpi.pending() {
+                let settled = acpi.settled();
+                chip.acpi = settled;
+            }
+            let given = device::reach::answered(access, answer);
+            x = x.answered(word, given.value, events, log);
             steps = counted(steps);
         }
     }

@@ -1,12 +1,11 @@
 // What a word does to the position, when it neither faults nor halts, and its access to the device.
 use crate::word;
 use access::Access;
-use device::Device;
 use record::Record;
 ghost use mathlib.Core.Path.{_≡_};
 ghost use Prim.Native.Nat.{_≤_, _<_};
 ghost use lib.ListN.{length, drop};
-ghost use Rattle.semantics.specs.World.{nextApplied, eventsBehind, readOf, writeOf};
+ghost use Rattle.semantics.specs.World.{eventsBehind, readOf, writeOf};
 ghost use Rattle.sequencer.specs.Holds.{Answers, CanAccess, CanTurn, MovesAlone, MovesPlace, accessOf};
 
 // Where a run stands, beside its device and its counters: the next word, and how many counters are in use, events taken and values
@@ -16,16 +15,6 @@ pub struct Position {
     pub taken: usize,
     pub logged: usize,
     pub place: u32,
-}
-
-// The device behind the next event, if there is one.
-pub fn next_applied(device: Device, events: &[u32], taken: usize) -> Device
-    ensures { λ r. ⌜ r ≡ nextApplied device (drop taken (now (events .entry))) ⌝ }
-{
-    if taken < events.len() {
-        return device.happened(events[taken]);
-    }
-    device
 }
 
 fn taken_behind(events: &[u32], taken: usize) -> usize

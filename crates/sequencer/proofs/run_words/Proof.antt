@@ -1,18 +1,25 @@
--- `sequencer::run_words` meets its contract. Assumes nothing.
-use Rattle.sequencer.proofs.Going.{Going, faulted, further, halted, looked, place-beyond, spent, starts}
-use Rattle.sequencer.proofs.Faults.{can-access, can-delay, can-turn}
+-- `sequencer::run_words` meets its contract. An access goes block by block: the next event arrives, the block that takes the access
+-- is replaced, and what it left settles. Assumes nothing.
+use Prim.Native.Nat.{_-_}
+use mathlib.Core.Logic.{⊎-elim}
+use mathlib.Core.Path.{_≡_, ap, refl, sym, _∙_}
+use native.Mathlib.Omega.{arith}
+use borrow.Author.Needs.{needs, scaled-fits}
+use lib.ListN.{drop, length}
+use Rattle.device.proofs.Claims.{acpi-takes, key-takes}
+use Rattle.device.proofs.Taken.{by-acpi, by-config, by-key, by-monitor, by-nobody, gives-accessed, nothing-settles, same-reach}
+use Rattle.device.proofs.Ticks.{delays}
+use Rattle.device.specs.Device.{settledDevice, withAcpi}
+use Rattle.device.specs.Reach.{accessed, reach, reached}
+use Rattle.semantics.specs.World.{nextApplied}
 use Rattle.sequencer.proofs.EachKind.{delayed-by}
-use Rattle.device.specs.Reach.{accessed}
-use Rattle.sequencer.specs.declared.Sequencer.{Sequencer}
+use Rattle.sequencer.proofs.Events.{next-none, next-there}
+use Rattle.sequencer.proofs.Faults.{can-access, can-delay, can-turn}
+use Rattle.sequencer.proofs.Going.{Going, faulted, further, halted, looked, place-beyond, spent, starts}
+use Rattle.sequencer.specs.Holds.{Starts, running}
 use Rattle.sequencer.specs.Run.{imageRun}
 use Rattle.sequencer.specs.Sequencer.{countersOf, laid}
-use Rattle.sequencer.specs.Holds.{Starts, running}
-use borrow.Author.Needs.{needs}
-use native.Mathlib.Omega.{arith}
-use lib.ListN.{length}
-use mathlib.Core.Path.{_≡_, ap, refl, sym, _∙_}
-use Prim.Native.Nat.{_-_}
-use borrow.Author.Tests.{eq-eqb, le-leb, le-ltb, lt-leb, lt-ltb, ne-eqb}
+use Rattle.sequencer.specs.declared.Sequencer.{Sequencer}
 use Rattle.sequencer.proofs.run_words.Statement.{statement}
 use Rattle.sequencer.proofs.run_words.Tie as tie
 
@@ -107,11 +114,11 @@ turns-requires c κs = search needs
 
 turned-requires : tie.Need-turned-requires Inv-loop μ-loop
 turned-requires c κs =
-    let z = sym (c .before .before .before .before .before .before .fault .ensures) ∙ c .before .before .before .before .before .if2 .left in
-    let t = sym (c .before .before .turns .ensures) ∙ c .before .if4 .taken in
     let l = c .before .before .before .before .before .before .before .before .before .before .before .before in
     let e = l .before .before .before .before .before .before in
     let g = l .loop .inv (e .args .sequencer) (l .before .before .start .ensures) (l .before .counters-of .ensures) in
+    let z = sym (c .before .before .before .before .before .before .fault .ensures) ∙ c .before .before .before .before .before .if2 .left in
+    let t = sym (c .before .before .turns .ensures) ∙ c .before .if4 .taken in
     (omega (arith, c .before .before .before .before .before .before .before .before .before .if1 .left, e .pre .0), can-turn _ _ (l .loop .x) (c .before .before .before .before .before .before .before .read .result) z (omega (arith, g .holds .used, g .holds .few)) t)
 
 counted-requires : tie.Need-counted-requires Inv-loop μ-loop
@@ -123,63 +130,124 @@ loop-less c = omega (arith, c .counted .ensures, c .before .before .before .befo
 loop-again : tie.Need-loop-again Inv-loop μ-loop
 loop-again c = λ s h q.
     rw (c .counted .ensures)
-    (further _ _ (c .before .before .before .before .before .before .before .before .before .before .before .before .before .before .loop .inv s h q) (c .before .before .before .before .before .before .before .before .before .before .before .before .before .loop-test .taken) (looked (c .before .before .before .before .before .before .before .before .before .before .before .if1 .left) (c .before .before .before .before .before .before .before .before .before .read .ensures) (c .before .before .before .before .before .before .before .before .before .before .index .ensures) (c .before .before .before .before .before .before .before .before .fault .ensures)) (c .before .before .before .before .before .before .before .if2 .left) (c .before .before .before .before .before .if3 .left) (c .before .turned .ensures _ _ _) refl)
+    (further _ _ (c .before .before .before .before .before .before .before .before .before .before .before .before .before .before .loop .inv s h q) (c .before .before .before .before .before .before .before .before .before .before .before .before .before .loop-test .taken)
+    (looked (c .before .before .before .before .before .before .before .before .before .before .before .if1 .left) (c .before .before .before .before .before .before .before .before .before .read .ensures) (c .before .before .before .before .before .before .before .before .before .before .index .ensures) (c .before .before .before .before .before .before .before .before .fault .ensures)) (c .before .before .before .before .before .before .before .if2 .left) (c .before .before .before .before .before .if3 .left)
+    (c .before .turned .ensures _ _ _)
+    refl)
 
-mul-happened : tie.Need-mul-happened Inv-loop μ-loop
-mul-happened c = search needs
+tick-requires : tie.Need-tick-requires Inv-loop μ-loop
+tick-requires c κs = search needs
 
-add-happened : tie.Need-add-happened Inv-loop μ-loop
-add-happened c =
-    let z = sym (c .before .before .before .before .before .before .before .before .fault .ensures) ∙ c .before .before .before .before .before .before .before .if2 .left in
-    omega (arith, can-delay _ _ (c .before .before .before .before .before .before .before .before .before .before .before .before .before .before .loop .x) (c .before .before .before .before .before .before .before .before .before .read .result) z (c .before .if5 .taken))
-
-happened-requires : tie.Need-happened-requires Inv-loop μ-loop
-happened-requires c κs = search needs
+settled-requires : tie.Need-settled-requires Inv-loop μ-loop
+settled-requires c κs = search needs
 
 add-x : tie.Need-add-x Inv-loop μ-loop
-add-x c = omega (arith, c .before .before .before .before .before .before .before .before .before .before .before .before .before .if1 .left, c .before .before .before .before .before .before .before .before .before .before .before .before .before .before .before .before .before .before .before .before .before .before .pre .0)
+add-x c = omega (arith, c .before .before .before .before .before .before .before .before .before .before .before .before .before .before .if1 .left, c .before .before .before .before .before .before .before .before .before .before .before .before .before .before .before .before .before .before .before .before .before .before .before .pre .0)
 
 counted-requires-2 : tie.Need-counted-requires-2 Inv-loop μ-loop
-counted-requires-2 c κs = omega (arith, c .before .before .before .before .before .before .before .before .before .before .before .before .before .before .before .loop-test .taken, c .before .before .before .before .before .before .before .before .before .before .before .before .before .before .before .before .before .before .before .before .before .before .fits .budget)
+counted-requires-2 c κs = omega (arith, c .before .before .before .before .before .before .before .before .before .before .before .before .before .before .before .before .loop-test .taken, c .before .before .before .before .before .before .before .before .before .before .before .before .before .before .before .before .before .before .before .before .before .before .before .fits .budget)
 
 loop-less-2 : tie.Need-loop-less-2 Inv-loop μ-loop
-loop-less-2 c = omega (arith, c .counted2 .ensures, c .before .before .before .before .before .before .before .before .before .before .before .before .before .before .before .before .loop-test .taken)
+loop-less-2 c = omega (arith, c .counted2 .ensures, c .before .before .before .before .before .before .before .before .before .before .before .before .before .before .before .before .before .loop-test .taken)
 
 loop-again-2 : tie.Need-loop-again-2 Inv-loop μ-loop
 loop-again-2 c = λ s h q.
     rw (c .counted2 .ensures)
-    (further _ _ (c .before .before .before .before .before .before .before .before .before .before .before .before .before .before .before .before .before .loop .inv s h q) (c .before .before .before .before .before .before .before .before .before .before .before .before .before .before .before .before .loop-test .taken) (looked (c .before .before .before .before .before .before .before .before .before .before .before .before .before .before .if1 .left) (c .before .before .before .before .before .before .before .before .before .before .before .before .read .ensures) (c .before .before .before .before .before .before .before .before .before .before .before .before .before .index .ensures) (c .before .before .before .before .before .before .before .before .before .before .before .fault .ensures)) (c .before .before .before .before .before .before .before .before .before .before .if2 .left) (c .before .before .before .before .before .before .before .before .if3 .left) (delayed-by (c .before .before .before .before .before .before .before .before .before .before .before .before .read .result) (running (c .before .before .before .before .before .before .before .before .before .before .before .before .before .before .before .before .before .loop .chip) (c .before .before .before .before .before .before .before .before .before .before .before .before .before .before .before .before .before .loop .x) (c .before .before .before .before .before .before .before .before .before .before .before .before .before .before .before .before .before .loop .counters)) (c .before .before .happened .result) (c .before .before .before .before .if5 .taken) (c .before .before .happened .ensures) _ _) refl)
+    (further _ _ (c .before .before .before .before .before .before .before .before .before .before .before .before .before .before .before .before .before .before .loop .inv s h q) (c .before .before .before .before .before .before .before .before .before .before .before .before .before .before .before .before .before .loop-test .taken)
+    (looked (c .before .before .before .before .before .before .before .before .before .before .before .before .before .before .before .if1 .left) (c .before .before .before .before .before .before .before .before .before .before .before .before .before .read .ensures) (c .before .before .before .before .before .before .before .before .before .before .before .before .before .before .index .ensures) (c .before .before .before .before .before .before .before .before .before .before .before .before .fault .ensures)) (c .before .before .before .before .before .before .before .before .before .before .before .if2 .left) (c .before .before .before .before .before .before .before .before .before .if3 .left)
+    (delayed-by (c .before .before .before .before .before .before .before .before .before .before .before .before .before .read .result) (running (c .before .before .before .before .before .before .before .before .before .before .before .before .before .before .before .before .before .before .loop .chip) (c .before .before .before .before .before .before .before .before .before .before .before .before .before .before .before .before .before .before .loop .x) (c .before .before .before .before .before .before .before .before .before .before .before .before .before .before .before .before .before .before .loop .counters)) (withAcpi (c .before .before .before .before .before .before .before .before .before .before .before .before .before .before .before .before .before .before .loop .chip) (c .before .before .settled .result)) (c .before .before .before .before .before .if5 .taken)
+    (delays _ _ (can-delay _ _ (c .before .before .before .before .before .before .before .before .before .before .before .before .before .before .before .before .before .before .loop .x) (c .before .before .before .before .before .before .before .before .before .before .before .before .before .read .result) (sym (c .before .before .before .before .before .before .before .before .before .before .before .before .fault .ensures) ∙ c .before .before .before .before .before .before .before .before .before .before .before .if2 .left) (c .before .before .before .before .before .if5 .taken)) (c .before .before .before .tick .ensures) (c .before .before .settled .ensures)) _ _)
+    refl)
 
-next-applied-requires : tie.Need-next-applied-requires Inv-loop μ-loop
-next-applied-requires c κs = search needs
+mul-happened : tie.Need-mul-happened Inv-loop μ-loop
+mul-happened c = scaled-fits _ _ 4 (c .if6 .taken) (c .before .before .before .before .before .before .before .before .before .before .before .before .before .before .before .before .before .before .before .before .good .1 .1 .1 .0 .1)
+
+shared-slice-read-happened : tie.Need-shared-slice-read-happened Inv-loop μ-loop
+shared-slice-read-happened c = search needs
+
+happened-requires : tie.Need-happened-requires Inv-loop μ-loop
+happened-requires c κs = search needs
 
 access-of-requires : tie.Need-access-of-requires Inv-loop μ-loop
 access-of-requires c κs = search needs
 
-accessed-requires : tie.Need-accessed-requires Inv-loop μ-loop
-accessed-requires c κs = search needs
+taker-requires : tie.Need-taker-requires Inv-loop μ-loop
+taker-requires c κs = search needs
+
+bare-requires : tie.Need-bare-requires Inv-loop μ-loop
+bare-requires c κs = search needs
+
+config-reached-requires : tie.Need-config-reached-requires Inv-loop μ-loop
+config-reached-requires c κs = search needs
+
+acpi-reached-requires : tie.Need-acpi-reached-requires Inv-loop μ-loop
+acpi-reached-requires c κs = acpi-takes _ _ (sym (c .before .before .before .before .taker .ensures) ∙ c .before .if8 .taken)
+
+monitor-reached-requires : tie.Need-monitor-reached-requires Inv-loop μ-loop
+monitor-reached-requires c κs = search needs
+
+key-reached-requires : tie.Need-key-reached-requires Inv-loop μ-loop
+key-reached-requires c κs = key-takes _ _ (sym (c .before .before .before .before .before .before .taker .ensures) ∙ c .before .if10 .taken)
+
+pending-requires : tie.Need-pending-requires Inv-loop μ-loop
+pending-requires c κs = search needs
+
+settled-requires-2 : tie.Need-settled-requires-2 Inv-loop μ-loop
+settled-requires-2 c κs = search needs
 
 answered-requires : tie.Need-answered-requires Inv-loop μ-loop
-answered-requires c κs =
-    let z = sym (c .before .before .before .before .before .before .before .before .before .before .before .before .before .fault .ensures) ∙ c .before .before .before .before .before .before .before .before .before .before .before .before .if2 .left in
-    let t = sym (c .before .before .before .before .before .before .before .before .before .turns .ensures) ∙ c .before .before .before .before .before .before .before .before .if4 .left in
-    let l = c .before .before .before .before .before .before .before .before .before .before .before .before .before .before .before .before .before .before .before in
-    let e = c .before .before .before .before .before .before .before .before .before .before .before .before .before .before .before .before .before .before .before .before .before .before .before .before .before in
+answered-requires c κs = search needs
+
+answered-requires-2 : tie.Need-answered-requires-2 Inv-loop μ-loop
+answered-requires-2 c κs =
+    let l = c .before .before .before .before .before .before .before .before .before .before .before .before .before .before .before .before .before .before .before .before .before .before .before .before in
+    let e = l .before .before .before .before .before .before in
     let g = l .loop .inv (e .args .sequencer) (l .before .before .start .ensures) (l .before .counters-of .ensures) in
-    (omega (arith, c .before .before .before .before .before .before .before .before .before .before .before .before .before .before .before .before .if1 .left, e .pre .0), g .holds .inside, can-access _ (l .loop .x) (c .before .before .before .before .before .before .before .before .before .before .before .before .before .before .read .result) (l .loop .log) z t (c .before .before .before .before .before .before .before .before .before .before .if3 .left) (c .before .before .before .before .before .before .if5 .left))
+    let z = sym (c .before .before .before .before .before .before .before .before .before .before .before .before .before .before .before .before .before .before .fault .ensures) ∙ c .before .before .before .before .before .before .before .before .before .before .before .before .before .before .before .before .before .if2 .left in
+    let t = sym (c .before .before .before .before .before .before .before .before .before .before .before .before .before .before .turns .ensures) ∙ c .before .before .before .before .before .before .before .before .before .before .before .before .before .if4 .left in
+    (omega (arith, c .before .before .before .before .before .before .before .before .before .before .before .before .before .before .before .before .before .before .before .before .before .if1 .left, e .pre .0), g .holds .inside, can-access _ (l .loop .x) (c .before .before .before .before .before .before .before .before .before .before .before .before .before .before .before .before .before .before .before .read .result) (l .loop .log) z t (c .before .before .before .before .before .before .before .before .before .before .before .before .before .before .before .if3 .left) (c .before .before .before .before .before .before .before .before .before .before .before .if5 .left))
 
 counted-requires-3 : tie.Need-counted-requires-3 Inv-loop μ-loop
-counted-requires-3 c κs = omega (arith, c .before .before .before .before .before .before .before .before .before .before .before .before .before .before .before .before .before .before .before .before .before .loop-test .taken, c .before .before .before .before .before .before .before .before .before .before .before .before .before .before .before .before .before .before .before .before .before .before .before .before .before .before .before .before .fits .budget)
+counted-requires-3 c κs = omega (arith, c .before .before .before .before .before .before .before .before .before .before .before .before .before .before .before .before .before .before .before .before .before .before .before .before .before .before .loop-test .taken, c .before .before .before .before .before .before .before .before .before .before .before .before .before .before .before .before .before .before .before .before .before .before .before .before .before .before .before .before .before .before .before .before .before .fits .budget)
 
 loop-less-3 : tie.Need-loop-less-3 Inv-loop μ-loop
-loop-less-3 c = omega (arith, c .counted3 .ensures, c .before .before .before .before .before .before .before .before .before .before .before .before .before .before .before .before .before .before .before .before .before .before .loop-test .taken)
+loop-less-3 c = omega (arith, c .counted3 .ensures, c .before .before .before .before .before .before .before .before .before .before .before .before .before .before .before .before .before .before .before .before .before .before .before .before .before .before .before .loop-test .taken)
+
+-- the next event, if there is one, is applied
+arrives :
+    (c : tie.Joined6 Inv-loop μ-loop)
+    → c .if6 .chip ≡ nextApplied (c .before .before .before .before .before .before .before .before .before .before .before .before .before .before .loop .chip) (drop (c .before .before .before .before .before .before .before .before .before .before .before .before .before .before .loop .x .taken) (c .before .before .before .before .before .before .before .before .before .before .before .before .before .before .before .before .before .before .before .before .args .events .now))
+arrives c =
+    ⊎-elim (λ w. w .3 ∙ w .2 .ensures ∙ sym (next-there _ _ _ (w .0 .taken)))
+    (λ w. w .1 ∙ sym (next-none _ _ _ (w .0 .left))) (c .if6 .came)
+
+-- the block that takes the access answers, and only it is replaced
+reaches :
+    (c : tie.Joined7 Inv-loop μ-loop)
+    → reached (c .before .before .before .before .before .if6 .chip) (c .before .before .before .before .access-of .result) ≡ reach (c .if7 .answer) (c .if7 .chip)
+reaches c =
+    let t = sym (c .before .before .taker .ensures) in
+    ⊎-elim (λ w. by-config _ _ _ (t ∙ w .0 .taken) (w .1 .ensures) ∙ same-reach (w .5) (w .4))
+    (⊎-elim (λ w. by-acpi _ _ _ (t ∙ w .1 .taken) (w .3 .ensures) ∙ same-reach (w .7) (w .6))
+    (⊎-elim (λ w. by-monitor _ _ _ (t ∙ w .2 .taken) (w .4 .ensures) ∙ same-reach (w .8) (w .7))
+    (⊎-elim (λ w. by-key _ _ _ (t ∙ w .3 .taken) (w .5 .ensures) ∙ same-reach (w .9) (w .8))
+    (λ w. by-nobody _ _ (λ e. w .0 .left (sym t ∙ e)) (λ e. w .1 .left (sym t ∙ e)) (λ e. w .2 .left (sym t ∙ e)) (λ e. w .3 .left (sym t ∙ e))
+    ∙ same-reach (w .5 ∙ c .before .bare .ensures) (w .4))))) (c .if7 .came)
+
+settles : (c : tie.Joined11 Inv-loop μ-loop) → c .if11 .chip ≡ settledDevice (c .before .before .before .if7 .chip)
+settles c =
+    ⊎-elim (λ w. w .2 ∙ ap (withAcpi (c .before .before .before .if7 .chip)) (w .1 .ensures))
+    (λ w. w .1 ∙ sym (nothing-settles _ (sym (c .before .pending .ensures) ∙ w .0 .left))) (c .if11 .came)
 
 loop-again-3 : tie.Need-loop-again-3 Inv-loop μ-loop
 loop-again-3 c = λ s h q.
-    let a = c .before .before .before .before .before .before .before in
-    let n = c .before .before .before .before .before .before .before .before .before in
     rw (c .counted3 .ensures)
-    (further _ _ (c .before .before .before .before .before .before .before .before .before .before .before .before .before .before .before .before .before .before .before .before .before .before .before .loop .inv s h q) (c .before .before .before .before .before .before .before .before .before .before .before .before .before .before .before .before .before .before .before .before .before .before .loop-test .taken) (looked (c .before .before .before .before .before .before .before .before .before .before .before .before .before .before .before .before .before .before .before .before .if1 .left) (c .before .before .before .before .before .before .before .before .before .before .before .before .before .before .before .before .before .before .read .ensures) (c .before .before .before .before .before .before .before .before .before .before .before .before .before .before .before .before .before .before .before .index .ensures) (c .before .before .before .before .before .before .before .before .before .before .before .before .before .before .before .before .before .fault .ensures)) (c .before .before .before .before .before .before .before .before .before .before .before .before .before .before .before .before .if2 .left) (c .before .before .before .before .before .before .before .before .before .before .before .before .before .before .if3 .left) (c .before .before .before .answered .ensures _ (n .next-applied .result) _ (a .accessed .result) (n .next-applied .ensures) (a .accessed .ensures ∙ ap (accessed (n .next-applied .result)) (a .before .access-of .ensures)) refl) (c .before .before .before .answered .kept .1 .1 .1 .1 .0))
+    (further _ _ (c .before .before .before .before .before .before .before .before .before .before .before .before .before .before .before .before .before .before .before .before .before .before .before .before .before .before .before .before .loop .inv s h q) (c .before .before .before .before .before .before .before .before .before .before .before .before .before .before .before .before .before .before .before .before .before .before .before .before .before .before .before .loop-test .taken)
+    (looked (c .before .before .before .before .before .before .before .before .before .before .before .before .before .before .before .before .before .before .before .before .before .before .before .before .before .if1 .left) (c .before .before .before .before .before .before .before .before .before .before .before .before .before .before .before .before .before .before .before .before .before .before .before .read .ensures) (c .before .before .before .before .before .before .before .before .before .before .before .before .before .before .before .before .before .before .before .before .before .before .before .before .index .ensures) (c .before .before .before .before .before .before .before .before .before .before .before .before .before .before .before .before .before .before .before .before .before .before .fault .ensures)) (c .before .before .before .before .before .before .before .before .before .before .before .before .before .before .before .before .before .before .before .before .before .if2 .left) (c .before .before .before .before .before .before .before .before .before .before .before .before .before .before .before .before .before .before .before .if3 .left)
+    (c .before .before .before .answered2 .ensures _ (c .before .before .before .before .before .before .before .before .before .before .before .before .before .before .if6 .chip) _ (reach (c .before .before .before .before .before .answered .result) (c .before .before .before .before .before .before .if11 .chip))
+    (arrives (c .before .before .before .before .before .before .before .before .before .before .before .before .before .before))
+    (gives-accessed _ _ _ _ _ _ (reaches (c .before .before .before .before .before .before .before .before .before)) (c .before .before .before .before .before .answered .ensures) (settles (c .before .before .before .before .before .before)) ∙ ap (accessed (c .before .before .before .before .before .before .before .before .before .before .before .before .before .before .if6 .chip)) (c .before .before .before .before .before .before .before .before .before .before .before .before .before .access-of .ensures)) refl)
+    (c .before .before .before .answered2 .kept .1 .1 .1 .1 .0))
 
 ended-requires-4 : tie.Need-ended-requires-4 Inv-loop μ-loop
 ended-requires-4 c κs = search needs
@@ -227,17 +295,26 @@ run-words-spec =
     counted-requires
     loop-less
     loop-again
-    mul-happened
-    add-happened
-    happened-requires
+    tick-requires
+    settled-requires
     add-x
     counted-requires-2
     loop-less-2
     loop-again-2
-    next-applied-requires
+    mul-happened
+    shared-slice-read-happened
+    happened-requires
     access-of-requires
-    accessed-requires
+    taker-requires
+    bare-requires
+    config-reached-requires
+    acpi-reached-requires
+    monitor-reached-requires
+    key-reached-requires
+    pending-requires
+    settled-requires-2
     answered-requires
+    answered-requires-2
     counted-requires-3
     loop-less-3
     loop-again-3

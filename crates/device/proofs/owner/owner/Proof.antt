@@ -1,8 +1,8 @@
--- `device::Device::owner` meets its contract. Assumes nothing.
+-- `device::owner::owner` meets its contract. Assumes nothing.
 use Rattle.device.specs.Owner.{owner}
 use borrow.Author.Needs.{needs}
-use Rattle.device.proofs.Device.owner.Statement.{statement}
-use Rattle.device.proofs.Device.owner.Tie as tie
+use Rattle.device.proofs.owner.owner.Statement.{statement}
+use Rattle.device.proofs.owner.owner.Tie as tie
 
 is-config-requires : tie.Need-is-config-requires
 is-config-requires c κs = search needs

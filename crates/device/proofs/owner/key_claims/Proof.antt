@@ -1,11 +1,11 @@
--- `device::Device::key_claims` meets its contract. Assumes nothing.
+-- `device::owner::key_claims` meets its contract. Assumes nothing.
 use native.Mathlib.Omega.{arith}
 use Rattle.device.proofs.Claims.{key-at-most}
 use borrow.Author.Tests.{eq-eqb, le-leb, le-ltb, lt-leb, lt-ltb, ne-eqb, not-false, not-true}
 use Rattle.device.specs.Owner.{keyClaims}
 use borrow.Author.Needs.{needs}
-use Rattle.device.proofs.Device.key_claims.Statement.{statement}
-use Rattle.device.proofs.Device.key_claims.Tie as tie
+use Rattle.device.proofs.owner.key_claims.Statement.{statement}
+use Rattle.device.proofs.owner.key_claims.Tie as tie
 
 is-active-requires : tie.Need-is-active-requires
 is-active-requires c κs = search needs
@@ -23,8 +23,8 @@ key-base-requires c κs = search needs
 returns-2 : tie.Need-returns-2
 unfolding keyClaims
 returns-2 c = simp (
-  ← (c .before .before .before .before .is-active .ensures),
-  not-false (c .before .before .before .before .is-active .result) (c .before .before .before .if1 .left),
+  ← (c .before .before .before .is-active .ensures),
+  not-false (c .before .before .before .is-active .result) (c .before .before .if1 .left),
   ← (c .before .key-base .ensures),
   eq-eqb _ _ (c .if2 .taken),
 )
@@ -32,8 +32,8 @@ returns-2 c = simp (
 returns-3 : tie.Need-returns-3
 unfolding keyClaims
 returns-3 c = simp (
-  ← (c .before .before .before .before .before .is-active .ensures),
-  not-false (c .before .before .before .before .before .is-active .result) (c .before .before .before .before .if1 .left),
+  ← (c .before .before .before .before .is-active .ensures),
+  not-false (c .before .before .before .before .is-active .result) (c .before .before .before .if1 .left),
   ← (c .before .before .key-base .ensures),
   ne-eqb _ _ (c .before .if2 .left),
   lt-ltb _ _ (c .if3 .taken),
@@ -43,13 +43,13 @@ returns-3 c = simp (
 add-result : tie.Need-add-result
 add-result c =
     omega
-    (arith, c .before .before .key-base .ensures, key-at-most (c .before .before .before .before .before .before .args .self .config))
+    (arith, c .before .before .key-base .ensures, key-at-most (c .before .before .before .before .before .args .config))
 
 returns-4 : tie.Need-returns-4
 unfolding keyClaims
 returns-4 c = simp (
-  ← (c .before .before .before .before .before .is-active .ensures),
-  not-false (c .before .before .before .before .before .is-active .result) (c .before .before .before .before .if1 .left),
+  ← (c .before .before .before .before .is-active .ensures),
+  not-false (c .before .before .before .before .is-active .result) (c .before .before .before .if1 .left),
   ← (c .before .before .key-base .ensures),
   ne-eqb _ _ (c .before .if2 .left),
   le-ltb _ _ (c .if3 .left),

@@ -1,7 +1,7 @@
--- `device::is_acpi` meets its contract. Assumes nothing.
+-- `device::owner::is_acpi` meets its contract. Assumes nothing.
 use borrow.Author.Tests.{le-leb, le-ltb, lt-leb, lt-ltb}
-use Rattle.device.proofs.is_acpi.Statement.{statement}
-use Rattle.device.proofs.is_acpi.Tie as tie
+use Rattle.device.proofs.owner.is_acpi.Statement.{statement}
+use Rattle.device.proofs.owner.is_acpi.Tie as tie
 
 returns : tie.Need-returns
 returns c = simp (

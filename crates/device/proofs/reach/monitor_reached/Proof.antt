@@ -1,11 +1,11 @@
--- `device::Device::monitor_reached` meets its contract. Assumes nothing.
+-- `device::reach::monitor_reached` meets its contract. Assumes nothing.
 use native.Mathlib.Omega.{arith}
-use Rattle.device.proofs.Claims.{runtime-at-most}
 use borrow.Author.Tests.{eq-eqb, ne-eqb}
+use Rattle.device.proofs.Claims.{runtime-at-most}
 use Rattle.device.specs.Reach.{monitorReached}
 use borrow.Author.Needs.{needs}
-use Rattle.device.proofs.Device.monitor_reached.Statement.{statement}
-use Rattle.device.proofs.Device.monitor_reached.Tie as tie
+use Rattle.device.proofs.reach.monitor_reached.Statement.{statement}
+use Rattle.device.proofs.reach.monitor_reached.Tie as tie
 
 low-byte-requires : tie.Need-low-byte-requires
 low-byte-requires c κs = search needs
@@ -14,7 +14,7 @@ runtime-base-requires : tie.Need-runtime-base-requires
 runtime-base-requires c κs = search needs
 
 add-if1 : tie.Need-add-if1
-add-if1 c = omega (arith, c .runtime-base .ensures, runtime-at-most (c .before .before .before .before .args .self .config))
+add-if1 c = omega (arith, c .runtime-base .ensures, runtime-at-most (c .before .before .args .config))
 
 write-index-requires : tie.Need-write-index-requires
 write-index-requires c κs = search needs
@@ -22,8 +22,8 @@ write-index-requires c κs = search needs
 bare-requires : tie.Need-bare-requires
 bare-requires c κs = search needs
 
-reach-requires : tie.Need-reach-requires
-reach-requires c κs = search needs
+monitor-answers-requires : tie.Need-monitor-answers-requires
+monitor-answers-requires c κs = search needs
 
 returns : tie.Need-returns
 unfolding monitorReached
@@ -34,7 +34,7 @@ returns c = simp (
   c .before .before .before .if2 .taken,
   c .before .before .write-index .ensures,
   c .before .bare .ensures,
-  c .reach .ensures,
+  c .monitor-answers .ensures,
 )
 
 wide8-requires : tie.Need-wide8-requires
@@ -43,19 +43,18 @@ wide8-requires c κs = search needs
 done-requires : tie.Need-done-requires
 done-requires c κs = search needs
 
-reach-requires-2 : tie.Need-reach-requires-2
-reach-requires-2 c κs = search needs
+monitor-answers-requires-2 : tie.Need-monitor-answers-requires-2
+monitor-answers-requires-2 c κs = search needs
 
 returns-2 : tie.Need-returns-2
 unfolding monitorReached
 returns-2 c = simp (
-  c .before .before .before .before .before .before .before .low-byte .ensures,
   ← (c .before .before .before .before .before .before .runtime-base .ensures),
   eq-eqb _ _ (c .before .before .before .before .if1 .taken),
   c .before .before .before .if2 .left,
-  ← (c .before .before .wide8 .ensures),
+  c .before .before .wide8 .ensures,
   c .before .done .ensures,
-  c .reach2 .ensures,
+  c .monitor-answers2 .ensures,
 )
 
 write-data-requires : tie.Need-write-data-requires
@@ -64,8 +63,8 @@ write-data-requires c κs = search needs
 bare-requires-2 : tie.Need-bare-requires-2
 bare-requires-2 c κs = search needs
 
-reach-requires-3 : tie.Need-reach-requires-3
-reach-requires-3 c κs = search needs
+monitor-answers-requires-3 : tie.Need-monitor-answers-requires-3
+monitor-answers-requires-3 c κs = search needs
 
 returns-3 : tie.Need-returns-3
 unfolding monitorReached
@@ -76,24 +75,23 @@ returns-3 c = simp (
   c .before .before .before .before .if3 .taken,
   c .before .before .before .write-data .ensures,
   c .before .bare2 .ensures,
-  c .reach3 .ensures,
+  c .monitor-answers3 .ensures,
 )
 
 read-data-requires : tie.Need-read-data-requires
 read-data-requires c κs = search needs
 
-reach-requires-4 : tie.Need-reach-requires-4
-reach-requires-4 c κs = search needs
+monitor-answers-requires-4 : tie.Need-monitor-answers-requires-4
+monitor-answers-requires-4 c κs = search needs
 
 returns-4 : tie.Need-returns-4
 unfolding monitorReached
 returns-4 c = simp (
-  c .before .before .before .before .before .before .low-byte .ensures,
   ← (c .before .before .before .before .before .runtime-base .ensures),
   ne-eqb _ _ (c .before .before .before .if1 .left),
   c .before .before .if3 .left,
   c .before .read-data .ensures,
-  c .reach4 .ensures,
+  c .monitor-answers4 .ensures,
 )
 
 pub monitor-reached-spec : {M : Type 1} → statement M
@@ -105,16 +103,16 @@ monitor-reached-spec =
     add-if1
     write-index-requires
     bare-requires
-    reach-requires
+    monitor-answers-requires
     returns
     wide8-requires
     done-requires
-    reach-requires-2
+    monitor-answers-requires-2
     returns-2
     write-data-requires
     bare-requires-2
-    reach-requires-3
+    monitor-answers-requires-3
     returns-3
     read-data-requires
-    reach-requires-4
+    monitor-answers-requires-4
     returns-4)

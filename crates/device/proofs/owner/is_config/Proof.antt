@@ -1,7 +1,7 @@
--- `device::is_config` meets its contract. Assumes nothing.
+-- `device::owner::is_config` meets its contract. Assumes nothing.
 use borrow.Author.Tests.{eq-eqb, ne-eqb}
-use Rattle.device.proofs.is_config.Statement.{statement}
-use Rattle.device.proofs.is_config.Tie as tie
+use Rattle.device.proofs.owner.is_config.Statement.{statement}
+use Rattle.device.proofs.owner.is_config.Tie as tie
 
 returns : tie.Need-returns
 returns c = simp (eq-eqb _ _ (c .if1 .taken))

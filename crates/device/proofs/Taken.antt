@@ -1,0 +1,70 @@
+-- What an access reaches, told by the block that takes it, and when there is nothing to settle: one law for each way through the
+-- code, for a lone access and a run alike. Assumes nothing.
+use mathlib.Core.Path.{_≡_, ap}
+use mathlib.Core.Bool.{false}
+use borrow.Author.Tests.{ne-eqb}
+use Rattle.access.specs.Status.{bare}
+use Rattle.access.specs.declared.Access.{Access}
+use Rattle.access.specs.declared.Answer.{Answer}
+use Rattle.acpi.proofs.Settle.{settled-idle}
+use Rattle.acpi.specs.Settle.{pending}
+use Rattle.acpi.specs.declared.Read.{Read}
+use Rattle.device.specs.Device.{settledDevice, withAcpi}
+use Rattle.device.specs.Owner.{taker}
+use Rattle.device.specs.Reach.{
+  accessed,
+  acpiReached,
+  answered,
+  byAcpi,
+  byConfig,
+  byKey,
+  byMonitor,
+  configReached,
+  keyReached,
+  monitorReached,
+  reach,
+  reached,
+}
+use Rattle.device.specs.declared.Device.{Device}
+use Rattle.device.specs.declared.reach.ConfigReached.{ConfigReached}
+use Rattle.device.specs.declared.reach.KeyReached.{KeyReached}
+use Rattle.device.specs.declared.reach.MonitorReached.{MonitorReached}
+
+module _ (d : Device) (x : Access) where
+  pub by-config : (r : ConfigReached) → taker (d .config) x ≡ 1 → r ≡ configReached (d .config) x → reached d x ≡ byConfig d r
+  unfolding reached
+  by-config r t e = rw (t, e)
+
+  pub by-acpi : (r : Read) → taker (d .config) x ≡ 2 → r ≡ acpiReached (d .acpi) x → reached d x ≡ byAcpi d r
+  unfolding reached
+  by-acpi r t e = rw (t, e)
+
+  pub by-monitor :
+      (r : MonitorReached) → taker (d .config) x ≡ 3 → r ≡ monitorReached (d .config) (d .monitor) x
+      → reached d x ≡ byMonitor d r
+  unfolding reached
+  by-monitor r t e = rw (t, e)
+
+  pub by-key :
+      (r : KeyReached) → taker (d .config) x ≡ 4 → r ≡ keyReached (d .config) (d .key) x → reached d x ≡ byKey d r
+  unfolding reached
+  by-key r t e = rw (t, e)
+
+  pub by-nobody :
+      (taker (d .config) x ≡ 1 → ⊥) → (taker (d .config) x ≡ 2 → ⊥) → (taker (d .config) x ≡ 3 → ⊥)
+      → (taker (d .config) x ≡ 4 → ⊥) → reached d x ≡ reach (bare 1) d
+  unfolding reached
+  by-nobody a b c e = rw (ne-eqb _ 1 a, ne-eqb _ 2 b, ne-eqb _ 3 c, ne-eqb _ 4 e)
+
+pub nothing-settles : (d : Device) → pending (d .acpi) ≡ false → settledDevice d ≡ d
+nothing-settles d h = ap (withAcpi d) (settled-idle (d .acpi) h)
+
+pub same-reach : {a b : Answer} {d e : Device} → a ≡ b → d ≡ e → reach b e ≡ reach a d
+same-reach p q = rw (p, q)
+
+-- the answer reached, as it is given, and the device reached, settled
+pub gives-accessed :
+    (d : Device) (x : Access) (answer given : Answer) (chip next : Device) → reached d x ≡ reach answer chip
+    → given ≡ answered x answer → next ≡ settledDevice chip → reach given next ≡ accessed d x
+unfolding accessed
+gives-accessed d x answer given chip next r g n = rw (r, g, n)
