@@ -10,7 +10,7 @@ ghost use Rattle.record.specs.Record.{bytesOf, recordAt};
 ghost use Rattle.script.specs.Records.{recordsOf};
 ghost use Rattle.script.specs.Refusals.{scriptRefusal};
 ghost use Rattle.compiler.specs.Compile.{compiled, imageAfter};
-ghost use Rattle.compiler.specs.Emit.{Aimed, gives, wordKind};
+ghost use Rattle.compiler.specs.Emit.{Aimed, gives, placeAfter, wordKind};
 ghost use Rattle.compiler.specs.Words.{word, imageBytes, wordsOf};
 
 // Number 0 and the words written, or a refusal with its place.
@@ -19,6 +19,14 @@ pub struct Compiled {
     pub place: u32,
     pub words: u32,
 }
+
+const LOOP_END: u32 = 5;
+
+const TEST: u32 = 6;
+
+const JUMP: u32 = 7;
+
+const HALT: u32 = 8;
 
 // ---- the targets
 
@@ -30,7 +38,7 @@ fn kind_of(script: &[u8], k: usize) -> u32
     script[12 * k + 2] as u32
 }
 
-// What is kept of a block that opens: 0 of an if, the place of its body of a repeat.
+// What is kept of a block that opens: 0 for an if, the place of its body for a repeat.
 fn start_of(kind: u32, body: u32) -> u32
     ensures { λ r. ⌜ r ≡ cond (eqb kind 5) 0 body ⌝ }
 {
@@ -40,14 +48,25 @@ fn start_of(kind: u32, body: u32) -> u32
     body
 }
 
-// The target of each record's word, in one pass: where an enter, a test or an else aims is known only at the end of its
-// block, or at its else, and until then its record waits.
+// The place behind a block whose end stands at `place`: the end of an if gives no word.
+fn behind_end(start: u32, place: u32) -> u32
+    requires { ⌜ place ≤ 1024 ⌝ }
+    ensures { λ r. ⌜ r ≡ placeAfter start place 7 ⌝ }
+{
+    if start == 0 {
+        return place;
+    }
+    place + 1
+}
+
+// The target of each word, at its record's number: a loop end aims at its body; an enter, a test or an else waits for its
+// block's end, or a test for its else, and aims behind it.
 fn fill_targets(script: &[u8], count: usize, targets: &mut [u32; 1024])
     requires { ⌜ (count ≡ length (now script) / 12) × (scriptRefusal (now script) .number ≡ 0) ⌝ }
     requires { ⌜ now targets ≡ replicate 1024 0 ⌝ }
     ensures { λ _. ⌜ Aimed (now (targets .exit)) 0 [] 0 (recordsOf (now (script .entry))) ⌝ }
 {
-    // For each open block the record that waits, and 0 for an if, else the place of a loop's body.
+    // The open blocks: the record of each that waits, and what is kept of its start.
     let mut waiting: [usize; 16] = [0; 16];
     let mut starts: [u32; 16] = [0; 16];
     let mut depth: usize = 0;
@@ -72,14 +91,11 @@ fn fill_targets(script: &[u8], count: usize, targets: &mut [u32; 1024])
         } else {
             depth = depth - 1;
             let start = starts[depth];
-            let block = waiting[depth];
+            let opened = waiting[depth];
+            let behind_block = behind_end(start, place);
             targets[k] = start;
-            if start == 0 {
-                targets[block] = place;
-            } else {
-                targets[block] = behind;
-                place = behind;
-            }
+            targets[opened] = behind_block;
+            place = behind_block;
         }
         k = next;
     }
@@ -100,18 +116,18 @@ fn word(kind: u32, width: u32, port: u32, target: u32, value: u32) -> Record
     }
 }
 
-// Writes, reads, delays and enters have their record's kind.
+// A word has the kind of its record, but for a test, a jump and a loop end.
 fn word_kind(kind: u32) -> u32
     ensures { λ r. ⌜ r ≡ wordKind kind ⌝ }
 {
     if kind == script::IF {
-        return 6;
+        return TEST;
     }
     if kind == script::ELSE {
-        return 7;
+        return JUMP;
     }
     if kind == script::END {
-        return 5;
+        return LOOP_END;
     }
     kind
 }
@@ -175,7 +191,7 @@ fn emit(script: &[u8], count: usize, image: &mut [u8])
         }
         k = next;
     }
-    put(image, place, word(8, 0, 0, 0, 0));
+    put(image, place, word(HALT, 0, 0, 0, 0));
 }
 
 // Refusal 9: a buffer of `length` bytes does not hold so many words.

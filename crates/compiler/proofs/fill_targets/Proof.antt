@@ -1,9 +1,7 @@
 -- `compiler::fill_targets` meets its contract. Assumes nothing.
 use Prim.Native.Nat.{_-_, _<_}
 use mathlib.Core.Path.{refl}
-use borrow.Author.Tests.{ne-eqb}
 use lib.ListN.{getD}
-use native.Mathlib.Numerals.{add-one}
 use native.Mathlib.Omega.{arith}
 use Rattle.compiler.proofs.Filling.{elsed, ended, filled, in-block, opened, Pass, passed, room, starts-out, waits-before}
 use Rattle.compiler.proofs.fill_targets.Statement.{statement}
@@ -98,11 +96,14 @@ mul-start c = omega arith
 array-read-start : tie.Need-array-read-start Inv-loop μ-loop
 array-read-start c = omega arith
 
-mul-block : tie.Need-mul-block Inv-loop μ-loop
-mul-block c = omega arith
+mul-opened : tie.Need-mul-opened Inv-loop μ-loop
+mul-opened c = omega arith
 
-array-read-block : tie.Need-array-read-block Inv-loop μ-loop
-array-read-block c = omega arith
+array-read-opened : tie.Need-array-read-opened Inv-loop μ-loop
+array-read-opened c = omega arith
+
+behind-end-requires : tie.Need-behind-end-requires Inv-loop μ-loop
+behind-end-requires c κs = omega arith
 
 mul-targets-2 : tie.Need-mul-targets-2 Inv-loop μ-loop
 mul-targets-2 c = omega arith
@@ -115,12 +116,6 @@ mul-targets-3 c = omega (arith, has-record (c .before .before))
 
 element-write-targets-3 : tie.Need-element-write-targets-3 Inv-loop μ-loop
 element-write-targets-3 c = omega (arith, has-record (c .before .before))
-
-mul-targets-4 : tie.Need-mul-targets-4 Inv-loop μ-loop
-mul-targets-4 c = omega (arith, has-record (c .before .before))
-
-element-write-targets-4 : tie.Need-element-write-targets-4 Inv-loop μ-loop
-element-write-targets-4 c = omega (arith, has-record (c .before .before))
 
 loop-less : tie.Need-loop-less Inv-loop μ-loop
 loop-less c = omega arith
@@ -144,13 +139,9 @@ loop-less-4 : tie.Need-loop-less-4 Inv-loop μ-loop
 loop-less-4 c = omega arith
 
 loop-again-4 : tie.Need-loop-again-4 Inv-loop μ-loop
-loop-again-4 c = ended _ _ _ _ _ _ _ _ _ (c .before .before .before .before .before .before .loop .inv) (c .before .before .before .before .before .loop-test .taken) (c .before .before .before .before .kind-of .ensures) (has-block (c .before .before)) _ (c .before .before .if2 .left) (c .before .if3 .left) (rw (c .if4 .taken))
-
-loop-less-5 : tie.Need-loop-less-5 Inv-loop μ-loop
-loop-less-5 c = omega arith
-
-loop-again-5 : tie.Need-loop-again-5 Inv-loop μ-loop
-loop-again-5 c = ended _ _ _ _ _ _ _ _ _ (c .before .before .before .before .before .before .loop .inv) (c .before .before .before .before .before .loop-test .taken) (c .before .before .before .before .kind-of .ensures) (has-block (c .before .before)) _ (c .before .before .if2 .left) (c .before .if3 .left) (rw (ne-eqb _ _ (c .if4 .left)) (add-one _))
+loop-again-4 c =
+    ended _ _ _ _ _ _ _ _ _ (c .before .before .before .before .before .before .loop .inv) (c .before .before .before .before .before .loop-test .taken) (c .before .before .before .before .kind-of .ensures) (has-block (c .before .before)) _ (c .before .before .if2 .left) (c .before .if3 .left)
+    (c .behind-end .ensures)
 
 returns : tie.Need-returns Inv-loop μ-loop
 returns c = filled _ _ _ _ _ _ _ _ (c .before .loop .inv) (c .loop-test .left)
@@ -182,14 +173,13 @@ fill-targets-spec =
     sub-depth
     mul-start
     array-read-start
-    mul-block
-    array-read-block
+    mul-opened
+    array-read-opened
+    behind-end-requires
     mul-targets-2
     element-write-targets-2
     mul-targets-3
     element-write-targets-3
-    mul-targets-4
-    element-write-targets-4
     loop-less
     loop-again
     loop-less-2
@@ -198,6 +188,4 @@ fill-targets-spec =
     loop-again-3
     loop-less-4
     loop-again-4
-    loop-less-5
-    loop-again-5
     returns)
