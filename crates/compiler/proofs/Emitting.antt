@@ -13,7 +13,7 @@ use Rattle.record.specs.declared.Record.{Record}
 use Rattle.script.specs.Records.{recordCount, recordsFrom, recordsOf}
 use Rattle.script.specs.Refusals.{innermost, scriptRefusal}
 use Rattle.script.proofs.Flat.{accepts}
-use Rattle.compiler.specs.Emit.{ahead, Aimed, emitFlat, framesAfter, gives, placeAfter, targetFor, wordFor, wordKind}
+use Rattle.compiler.specs.Emit.{ahead, Aimed, emitFlat, framesAfter, gives, targetFor, wordFor, wordKind}
 use Rattle.compiler.specs.Words.{halt, imageBytes, word, wordsOf}
 use Rattle.compiler.proofs.Ahead.{emit-script}
 use Rattle.compiler.proofs.Image.{one-more-word}
@@ -80,7 +80,7 @@ gives-by frame lead kind = pick (eqb kind 7) _
     pick true t = refl
     pick false t = refl
 
-module _ (script lent targets image : List ℕ) (count place k : ℕ) (g : Emitting script lent targets image count place k) where
+module _ {script lent targets image : List ℕ} {count place k : ℕ} (g : Emitting script lent targets image count place k) where
   pub has-room : (12 * place + 12 ≤ length image) × (place ≤ 1024)
   has-room =
       let rest = emitFlat (g .frames) place (recordsFrom (count - k) k script) in
@@ -95,38 +95,35 @@ module _ (script lent targets image : List ℕ) (count place k : ℕ) (g : Emitt
       (omega (arith, g .fits, g .same), omega (arith, g .few-words))
 
   -- ---- record k
-  module _ (r : Record) (h : k < count) (e : r ≡ recordAt script (12 * k)) where
-    rest : List Record
+  module _ {r : Record} (h : k < count) (e : r ≡ recordAt script (12 * k)) where
+    abbrev rest : List Record
     rest = recordsFrom (count - (k + 1)) (k + 1) script
 
-    here : recordsFrom (count - k) k script ≡ r ∷ rest
-    unfolding rest
-    here = rw (from-here script count k h, e)
-
-    lead : ℕ
+    abbrev lead : ℕ
     lead = ahead [] (suc place) rest
 
-    hit : Aimed targets k (g .frames) place (r ∷ rest)
-    hit = rw here at (g .aimed)
+    here : recordsFrom (count - k) k script ≡ r ∷ rest
+    here = rw (from-here script count k h, e)
 
-    aimed-at : getD targets k 0 ≡ targetFor (innermost (g .frames)) lead (r .kind)
-    unfolding lead
-    aimed-at = hit .0
+    aimed-on : Aimed targets k (g .frames) place (r ∷ rest)
+    aimed-on = rw here at (g .aimed)
+
+    target-is : getD targets k 0 ≡ targetFor (innermost (g .frames)) lead (r .kind)
+    target-is = aimed-on .0
 
     gives-so : gives (getD targets k 0) (r .kind) ≡ gives (innermost (g .frames)) (r .kind)
-    gives-so = rw aimed-at (gives-by (innermost (g .frames)) lead (r .kind))
+    gives-so = rw target-is (gives-by (innermost (g .frames)) lead (r .kind))
 
     unrolled : g .words ++ emitFlat (g .frames) place (r ∷ rest) ≡ wordsOf script
     unrolled =
         ap (λ (l : List Record). g .words ++ emitFlat (g .frames) place l) (sym here) ∙ g .whole
 
     -- it gives a word, which is written
-    pub goes-on : (w : Record) (now : List ℕ) → gives (getD targets k 0) (r .kind) ≡ true
+    pub goes-on : {w : Record} {now : List ℕ} → gives (getD targets k 0) (r .kind) ≡ true
         → w ≡ word (wordKind (r .kind)) (r .width) (r .port) (getD targets k 0) (r .value)
         → now ≡ take (12 * place) image ++ (bytesOf w ++ drop 12 (drop (12 * place) image)) → length now ≡ length image
         → Emitting script lent targets now count (place + 1) (k + 1)
-    unfolding rest lead
-    goes-on w now b m i l =
+    goes-on {w = w} b m i l =
         let y : gives (innermost (g .frames)) (r .kind) ≡ true = sym gives-so ∙ b in
         record {
           few = g .few;
@@ -135,9 +132,9 @@ module _ (script lent targets image : List ℕ) (count place k : ℕ) (g : Emitt
           fits = g .fits;
           inside = omega arith;
           frames = framesAfter (g .frames) place (r .kind);
-          aimed = rw (add-one k, add-one place) (rw (y, add-one k) at (hit .1));
+          aimed = rw (add-one k, add-one place) (rw (y, add-one k) at (aimed-on .1));
           words = g .words ++ (w ∷ []);
-          whole = rw (append-assoc, m, aimed-at, add-one place) (rw y at unrolled);
+          whole = rw (append-assoc, m, target-is, add-one place) (rw y at unrolled);
           many = length-append (g .words) (w ∷ []) ∙ (rw (g .many));
           written = i ∙ one-more-word (g .words) w lent image place (g .many) (g .written);
           same = l ∙ g .same;
@@ -145,7 +142,6 @@ module _ (script lent targets image : List ℕ) (count place k : ℕ) (g : Emitt
 
     -- it gives none
     pub passes : gives (getD targets k 0) (r .kind) ≡ false → Emitting script lent targets image count place (k + 1)
-    unfolding rest
     passes b =
         let n : gives (innermost (g .frames)) (r .kind) ≡ false = sym gives-so ∙ b in
         record {
@@ -155,7 +151,7 @@ module _ (script lent targets image : List ℕ) (count place k : ℕ) (g : Emitt
           fits = g .fits;
           inside = omega arith;
           frames = framesAfter (g .frames) place (r .kind);
-          aimed = rw (add-one k) (rw (n, add-one k) at (hit .1));
+          aimed = rw (add-one k) (rw (n, add-one k) at (aimed-on .1));
           words = g .words;
           whole = rw n at unrolled;
           many = g .many;
@@ -164,10 +160,10 @@ module _ (script lent targets image : List ℕ) (count place k : ℕ) (g : Emitt
         }
 
   -- the halt completes the words
-  pub completes : (now : List ℕ) → count ≤ k
+  pub completes : {now : List ℕ} → count ≤ k
       → now ≡ take (12 * place) image ++ (bytesOf halt ++ drop 12 (drop (12 * place) image))
       → now ≡ imageBytes (wordsOf script) ++ drop (12 * length (wordsOf script)) lent
-  completes now h i =
+  completes h i =
       let e : g .words ++ (halt ∷ []) ≡ wordsOf script =
       rw (behind-last script count k h) at (g .whole) in
       let n : place + 1 ≡ length (wordsOf script) =

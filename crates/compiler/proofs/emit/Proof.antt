@@ -44,17 +44,17 @@ word-requires : tie.Need-word-requires Inv-loop μ-loop
 word-requires c κs = search needs
 
 put-requires : tie.Need-put-requires Inv-loop μ-loop
-put-requires c κs = has-room _ _ _ _ _ _ _ (c .before .before .before .before .before .before .before .loop .inv)
+put-requires c κs = has-room (c .before .before .before .before .before .before .before .loop .inv)
 
 add-place : tie.Need-add-place Inv-loop μ-loop
-add-place c = omega (arith, has-room _ _ _ _ _ _ _ (c .before .before .before .before .before .before .before .before .before .before .loop .inv))
+add-place c = omega (arith, has-room (c .before .before .before .before .before .before .before .before .before .before .loop .inv))
 
 loop-less : tie.Need-loop-less Inv-loop μ-loop
 loop-less c = omega arith
 
 loop-again : tie.Need-loop-again Inv-loop μ-loop
 loop-again c =
-    goes-on _ _ _ _ _ _ _ (c .before .before .before .before .before .before .before .before .before .before .loop .inv) _ (c .before .before .before .before .before .before .before .before .before .loop-test .taken) (c .before .before .before .before .before .before .before .before .read .ensures) _ _
+    goes-on (c .before .before .before .before .before .before .before .before .before .before .loop .inv) (c .before .before .before .before .before .before .before .before .before .loop-test .taken) (c .before .before .before .before .before .before .before .before .read .ensures)
     (sym (c .before .before .before .before .before .before .before .gives .ensures) ∙ c .before .before .before .before .before .before .if1 .taken)
     (rw (c .before .before .before .before .word-kind .ensures) at (c .before .before .before .word .ensures)) (c .before .before .put .ensures) (c .before .before .put .kept .0)
 
@@ -63,21 +63,21 @@ loop-less-2 c = omega arith
 
 loop-again-2 : tie.Need-loop-again-2 Inv-loop μ-loop
 loop-again-2 c =
-    passes _ _ _ _ _ _ _ (c .before .before .before .before .loop .inv) _ (c .before .before .before .loop-test .taken) (c .before .before .read .ensures)
+    passes (c .before .before .before .before .loop .inv) (c .before .before .before .loop-test .taken) (c .before .before .read .ensures)
     (sym (c .before .gives .ensures) ∙ c .if1 .left)
 
 word-requires-2 : tie.Need-word-requires-2 Inv-loop μ-loop
 word-requires-2 c κs = search needs
 
 put-requires-2 : tie.Need-put-requires-2 Inv-loop μ-loop
-put-requires-2 c κs = has-room _ _ _ _ _ _ _ (c .before .before .before .loop .inv)
+put-requires-2 c κs = has-room (c .before .before .before .loop .inv)
 
 same-length : tie.Need-same-length Inv-loop μ-loop
 same-length c = c .before .before .put2 .kept .0 ∙ c .before .before .before .before .before .before .loop .inv .same
 
 returns : tie.Need-returns Inv-loop μ-loop
 returns c =
-    completes _ _ _ _ _ _ _ (c .before .before .before .before .before .before .loop .inv) _ (c .before .before .before .before .before .loop-test .left) (rw (c .before .before .before .word2 .ensures) at (c .before .before .put2 .ensures))
+    completes (c .before .before .before .before .before .before .loop .inv) (c .before .before .before .before .before .loop-test .left) (rw (c .before .before .before .word2 .ensures) at (c .before .before .put2 .ensures))
 
 pub emit-spec : {M : Type 1} → statement M
 emit-spec =

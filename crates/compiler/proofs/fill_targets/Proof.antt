@@ -3,19 +3,19 @@ use Prim.Native.Nat.{_-_, _<_}
 use mathlib.Core.Path.{refl}
 use lib.ListN.{getD}
 use native.Mathlib.Omega.{arith}
-use Rattle.compiler.proofs.Filling.{elsed, ended, filled, in-block, opened, Pass, passed, room, starts-out, waits-before}
+use Rattle.compiler.proofs.Filling.{begins, elsed, ended, filled, Filling, in-block, opened, passed, room, Turn, waits-before}
 use Rattle.compiler.proofs.fill_targets.Statement.{statement}
 use Rattle.compiler.proofs.fill_targets.Tie as tie
 
 abbrev Inv-loop : tie.InvT-loop
 Inv-loop script count targets₀ waiting₀ starts₀ depth₀ place₀ k₀ targets waiting starts depth place k =
-    Pass script count targets waiting starts depth place k
+    Filling script count targets waiting starts depth place k
 
 abbrev μ-loop : tie.MeasureT-loop
 μ-loop script count targets₀ waiting₀ starts₀ depth₀ place₀ k₀ targets waiting starts depth place k = count - k
 
 loop-holds : tie.Need-loop-holds Inv-loop μ-loop
-loop-holds c = starts-out _ _ _ _ _ (c .before .pre .0 .0) (c .before .pre .0 .1) (c .before .pre .1) refl refl
+loop-holds c = begins _ _ _ _ _ (c .before .pre .0 .0) (c .before .pre .0 .1) (c .before .pre .1) refl refl
 
 kind-of-requires : tie.Need-kind-of-requires Inv-loop μ-loop
 kind-of-requires c κs = omega arith
@@ -29,24 +29,27 @@ add-next c = omega arith
 mul-waiting : tie.Need-mul-waiting Inv-loop μ-loop
 mul-waiting c = omega arith
 
+turn : (c : tie.After-kind-of Inv-loop μ-loop)
+    → let l = c .before .before .loop in
+    Turn (c .before .before .before .before .args .script .now) (c .before .before .before .before .args .count) (l .targets) (l .waiting) (l .starts) (l .depth) (l .place) (l .k)
+    (c .kind-of .result)
+turn c = record {
+  filling = c .before .before .loop .inv;
+  within = c .before .loop-test .taken;
+  kind-is = c .kind-of .ensures;
+}
+
 -- there is room where a block opens
 has-room : (c : tie.Then2 Inv-loop μ-loop) → c .before .before .before .before .loop .depth < 16
-has-room c =
-    room _ _ _ _ _ _ _ _ _ (c .before .before .before .before .loop .inv) (c .before .before .before .loop-test .taken) (c .before .before .kind-of .ensures)
-    (c .before .if1 .left) (c .if2 .taken)
+has-room c = room (turn (c .before .before)) (c .before .if1 .left) (c .if2 .taken)
 
 -- an else and an end stand in a block, whose record waits
 has-block : (c : tie.Else2 Inv-loop μ-loop) → 0 < c .before .before .before .before .loop .depth
-has-block c =
-    in-block _ _ _ _ _ _ _ _ _ (c .before .before .before .before .loop .inv) (c .before .before .before .loop-test .taken) (c .before .before .kind-of .ensures)
-    (c .if2 .left)
+has-block c = in-block (turn (c .before .before)) (c .if2 .left)
 
 has-record : (c : tie.Else2 Inv-loop μ-loop)
-    → getD (c .before .before .before .before .loop .waiting) (c .before .before .before .before .loop .depth - 1) 0
-    < c .before .before .before .before .loop .k
-has-record c =
-    waits-before _ _ _ _ _ _ _ _ _ (c .before .before .before .before .loop .inv) (c .before .before .before .loop-test .taken) (c .before .before .kind-of .ensures)
-    (has-block c)
+    → let l = c .before .before .before .before .loop in getD (l .waiting) (l .depth - 1) 0 < l .k
+has-record c = waits-before (turn (c .before .before)) (has-block c)
 
 array-write-waiting : tie.Need-array-write-waiting Inv-loop μ-loop
 array-write-waiting c = omega (arith, has-room c)
@@ -121,30 +124,30 @@ loop-less : tie.Need-loop-less Inv-loop μ-loop
 loop-less c = omega arith
 
 loop-again : tie.Need-loop-again Inv-loop μ-loop
-loop-again c = passed _ _ _ _ _ _ _ _ _ (c .before .before .before .loop .inv) (c .before .before .loop-test .taken) (c .before .kind-of .ensures) (c .if1 .taken)
+loop-again c = passed (turn (c .before)) (c .if1 .taken)
 
 loop-less-2 : tie.Need-loop-less-2 Inv-loop μ-loop
 loop-less-2 c = omega arith
 
 loop-again-2 : tie.Need-loop-again-2 Inv-loop μ-loop
-loop-again-2 c = opened _ _ _ _ _ _ _ _ _ (c .before .before .before .before .before .loop .inv) (c .before .before .before .before .loop-test .taken) (c .before .before .before .kind-of .ensures) _ (c .before .before .if1 .left) (c .before .if2 .taken) (c .start-of .ensures)
+loop-again-2 c = opened (turn (c .before .before .before)) _ (c .before .before .if1 .left) (c .before .if2 .taken) (c .start-of .ensures)
 
 loop-less-3 : tie.Need-loop-less-3 Inv-loop μ-loop
 loop-less-3 c = omega arith
 
 loop-again-3 : tie.Need-loop-again-3 Inv-loop μ-loop
-loop-again-3 c = elsed _ _ _ _ _ _ _ _ _ (c .before .before .before .before .before .loop .inv) (c .before .before .before .before .loop-test .taken) (c .before .before .before .kind-of .ensures) (has-block (c .before)) (c .if3 .taken)
+loop-again-3 c = elsed (turn (c .before .before .before)) (has-block (c .before)) (c .if3 .taken)
 
 loop-less-4 : tie.Need-loop-less-4 Inv-loop μ-loop
 loop-less-4 c = omega arith
 
 loop-again-4 : tie.Need-loop-again-4 Inv-loop μ-loop
 loop-again-4 c =
-    ended _ _ _ _ _ _ _ _ _ (c .before .before .before .before .before .before .loop .inv) (c .before .before .before .before .before .loop-test .taken) (c .before .before .before .before .kind-of .ensures) (has-block (c .before .before)) _ (c .before .before .if2 .left) (c .before .if3 .left)
-    (c .behind-end .ensures)
+    ended (turn (c .before .before .before .before)) (has-block (c .before .before)) _ (c .before .before .if2 .left)
+    (c .before .if3 .left) (c .behind-end .ensures)
 
 returns : tie.Need-returns Inv-loop μ-loop
-returns c = filled _ _ _ _ _ _ _ _ (c .before .loop .inv) (c .loop-test .left)
+returns c = filled (c .before .loop .inv) (c .loop-test .left)
 
 pub fill-targets-spec : {M : Type 1} → statement M
 fill-targets-spec =

@@ -1,5 +1,5 @@
 -- `compiler::word_kind` meets its contract. Assumes nothing.
-use borrow.Author.Tests.{eq-eqb, ne-eqb}
+use borrow.Author.Tests.{ne-eqb}
 use Rattle.compiler.proofs.word_kind.Statement.{statement}
 use Rattle.compiler.proofs.word_kind.Tie as tie
 
