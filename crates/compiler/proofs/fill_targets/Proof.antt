@@ -14,21 +14,7 @@ Inv-loop script count targets₀ waiting₀ starts₀ depth₀ place₀ k₀ tar
 abbrev μ-loop : tie.MeasureT-loop
 μ-loop script count targets₀ waiting₀ starts₀ depth₀ place₀ k₀ targets waiting starts depth place k = count - k
 
-loop-holds : tie.Need-loop-holds Inv-loop μ-loop
-loop-holds c = begins _ _ _ _ _ (c .before .pre .0 .0) (c .before .pre .0 .1) (c .before .pre .1) refl refl
-
-kind-of-requires : tie.Need-kind-of-requires Inv-loop μ-loop
-kind-of-requires c κs = omega arith
-
-add-behind : tie.Need-add-behind Inv-loop μ-loop
-add-behind c = omega arith
-
-add-next : tie.Need-add-next Inv-loop μ-loop
-add-next c = omega arith
-
-mul-waiting : tie.Need-mul-waiting Inv-loop μ-loop
-mul-waiting c = omega arith
-
+-- a turn, once the kind of its record is read
 turn : (c : tie.After-kind-of Inv-loop μ-loop)
     → let l = c .before .before .loop in
     Turn (c .before .before .before .before .args .script .now) (c .before .before .before .before .args .count) (l .targets) (l .waiting) (l .starts) (l .depth) (l .place) (l .k)
@@ -50,6 +36,21 @@ has-block c = in-block (turn (c .before .before)) (c .if2 .left)
 has-record : (c : tie.Else2 Inv-loop μ-loop)
     → let l = c .before .before .before .before .loop in getD (l .waiting) (l .depth - 1) 0 < l .k
 has-record c = waits-before (turn (c .before .before)) (has-block c)
+
+loop-holds : tie.Need-loop-holds Inv-loop μ-loop
+loop-holds c = begins _ _ _ _ _ (c .before .pre .0 .0) (c .before .pre .0 .1) (c .before .pre .1) refl refl
+
+kind-of-requires : tie.Need-kind-of-requires Inv-loop μ-loop
+kind-of-requires c κs = omega arith
+
+add-behind : tie.Need-add-behind Inv-loop μ-loop
+add-behind c = omega arith
+
+add-next : tie.Need-add-next Inv-loop μ-loop
+add-next c = omega arith
+
+mul-waiting : tie.Need-mul-waiting Inv-loop μ-loop
+mul-waiting c = omega arith
 
 array-write-waiting : tie.Need-array-write-waiting Inv-loop μ-loop
 array-write-waiting c = omega (arith, has-room c)
