@@ -1,5 +1,6 @@
--- The compiler's walk over the records as they lie, one after the other: where a block leads is looked ahead to, and the
--- open blocks are kept in frames. That it gives the words of the nested reading is a law (proofs/Ahead.antt).
+-- The words by a walk over the records as they lie, one after the other: the open blocks are kept in frames, and where a
+-- block leads is looked ahead to. That it gives the words of the nested reading is a law (proofs/Ahead.antt). The code does not
+-- look ahead: it fills a table with the targets that the walk would find (proofs/Targets.antt).
 use Prim.Native.Nat.{ℕ, suc}
 use mathlib.Core.Path.{_≡_}
 use mathlib.Core.Bool.{Bool, cond, not, _&&_, _||_}
@@ -54,7 +55,7 @@ emitFlat frames place (r ∷ rs) =
     ∷ emitFlat (framesAfter frames place (r .kind)) (suc place) rs)
     (emitFlat (framesAfter frames place (r .kind)) place rs)
 
--- ---- a table has the target of each record from record k on
+-- ---- a table that has the target of each record, from record k on
 abbrev pub Aimed : List ℕ → ℕ → List ℕ → ℕ → List Record → Type 0
 Aimed targets k frames place [] = Unit {0}
 Aimed targets k frames place (r ∷ rs) =

@@ -20,6 +20,7 @@ pub struct Compiled {
     pub words: u32,
 }
 
+// The kinds of the words that have not the kind of their record.
 const LOOP_END: u32 = 5;
 
 const TEST: u32 = 6;
@@ -79,11 +80,13 @@ fn fill_targets(script: &[u8], count: usize, targets: &mut [u32; 1024])
         if kind <= script::DELAY {
             place = behind;
         } else if kind <= script::IF {
+            // A repeat or an if.
             waiting[depth] = k;
             starts[depth] = start_of(kind, behind);
             depth = depth + 1;
             place = behind;
         } else if kind == script::ELSE {
+            // The jump waits in place of its test.
             let test = waiting[depth - 1];
             targets[test] = behind;
             waiting[depth - 1] = k;
@@ -116,7 +119,7 @@ fn word(kind: u32, width: u32, port: u32, target: u32, value: u32) -> Record
     }
 }
 
-// A word has the kind of its record, but for a test, a jump and a loop end.
+// The kind of a record's word.
 fn word_kind(kind: u32) -> u32
     ensures { λ r. ⌜ r ≡ wordKind kind ⌝ }
 {
@@ -181,12 +184,9 @@ fn emit(script: &[u8], count: usize, image: &mut [u8])
         let target = targets[k];
         let next = k + 1;
         if gives(target, r.kind) {
+            let kind = word_kind(r.kind);
             // A field that the record does not use is 0, and so it is in the word.
-            put(
-                image,
-                place,
-                word(word_kind(r.kind), r.width, r.port, target, r.value),
-            );
+            put(image, place, word(kind, r.width, r.port, target, r.value));
             place = place + 1;
         }
         k = next;

@@ -56,7 +56,7 @@ loop-again : tie.Need-loop-again Inv-loop μ-loop
 loop-again c =
     goes-on (c .before .before .before .before .before .before .before .before .before .before .loop .inv) (c .before .before .before .before .before .before .before .before .before .loop-test .taken) (c .before .before .before .before .before .before .before .before .read .ensures)
     (sym (c .before .before .before .before .before .before .before .gives .ensures) ∙ c .before .before .before .before .before .before .if1 .taken)
-    (rw (c .before .before .before .before .word-kind .ensures) at (c .before .before .before .word .ensures)) (c .before .before .put .ensures) (c .before .before .put .kept .0)
+    (rw (c .before .before .before .before .before .word-kind .ensures) at (c .before .before .before .word .ensures)) (c .before .before .put .ensures) (c .before .before .put .kept .0)
 
 loop-less-2 : tie.Need-loop-less-2 Inv-loop μ-loop
 loop-less-2 c = omega arith
