@@ -1,85 +1,62 @@
 -- The compiler's walk over flat records: the look-ahead gives the place to which a block leads, and the words of the walk
 -- are those of the nested reading. Assumes nothing.
-use Prim.Native.Nat.{ℕ, suc, _+_, _-_, _≤_}
-use mathlib.Core.Path.{_≡_, refl, sym, ap, _∙_}
-use mathlib.Core.Bool.{Bool, true, false, cond, _||_, and-false}
+use Prim.Native.Nat.{ℕ, suc}
+use mathlib.Core.Path.{_≡_, refl, ap, _∙_}
+use mathlib.Core.Bool.{false}
 use mathlib.Core.List.{List, [], _∷_}
 use borrow.Author.Tests.{ne-eqb}
 use lib.Dec.{eqb}
-use lib.ListN.{length}
 use native.Mathlib.Omega.{arith}
 use Rattle.record.specs.declared.Record.{Record}
-use Rattle.script.specs.Nested.{Body, done, write, read, delay, repeat, if, ifElse, readingOf, bodyIn, scriptBody, elseRecord, endRecord, flat}
+use Rattle.script.specs.Nested.{Body, done, write, read, delay, repeat, if, ifElse, readingOf, bodyIn, scriptBody, scriptRecord, elseRecord, endRecord, flat}
 use Rattle.script.specs.Records.{recordsOf}
 use Rattle.script.specs.Refusals.{firstFault, scriptRefusal}
 use Rattle.script.proofs.Flat.{accepts, reading-flat}
-use Rattle.compiler.specs.Emit.{ahead, depthAfter, emitFlat, stops}
+use Rattle.compiler.specs.Emit.{ahead, emitFlat, framesAfter}
 use Rattle.compiler.specs.Words.{behind, emit, halt, word, wordsOf}
 
--- one place further, all of a body is
-behind-suc : (b : Body) (at : ℕ) → behind (suc at) b ≡ suc (behind at b)
-behind-suc done at = refl
-behind-suc (write p w v rest) at = behind-suc rest (suc at)
-behind-suc (read p w rest) at = behind-suc rest (suc at)
-behind-suc (delay n rest) at = behind-suc rest (suc at)
-behind-suc (repeat n b rest) at =
-    ap (λ (x : ℕ). behind (suc x) rest) (behind-suc b (suc at)) ∙ behind-suc rest (suc (behind (suc at) b))
-behind-suc (if p w m b rest) at =
-    ap (λ (x : ℕ). behind x rest) (behind-suc b (suc at)) ∙ behind-suc rest (behind (suc at) b)
-behind-suc (ifElse p w m b c rest) at =
-    ap (λ (x : ℕ). behind (behind (suc x) c) rest) (behind-suc b (suc at))
-    ∙ ap (λ (x : ℕ). behind x rest) (behind-suc c (suc (behind (suc at) b)))
-    ∙ behind-suc rest (behind (suc (behind (suc at) b)) c)
+-- ---- a record, looked at from a block around it: one that closes no block, an end of a loop
+pub ahead-word : (frames : List ℕ) (place : ℕ) (r : Record) (rs : List Record) → eqb (r .kind) 6 ≡ false
+    → eqb (r .kind) 7 ≡ false
+    → ahead frames place (r ∷ rs) ≡ ahead (framesAfter frames place (r .kind)) (suc place) rs
+ahead-word [] place r rs s e = simp (e, s)
+ahead-word (f ∷ fs) place r rs s e = simp e
 
--- ---- an end and an else of a block opened since
-end-block : (depth place : ℕ) (tl : List Record)
-    → ahead (suc depth) place (endRecord ∷ tl) ≡ ahead depth (suc place) tl
-end-block depth place tl =
-    let a : suc depth - 1 ≡ depth = omega arith in
-    rw (ne-eqb (suc depth) 0 (omega arith), a)
-
-else-block : (depth place : ℕ) (tl : List Record)
-    → ahead (suc depth) place (elseRecord ∷ tl) ≡ ahead (suc depth) (suc place) tl
-else-block depth place tl = rw (ne-eqb (suc depth) 0 (omega arith))
-
--- a record that opens no block and closes none, and one that opens one, whatever the depth
-plain : (depth kind : ℕ) → (eqb kind 6 || eqb kind 7) ≡ false → stops depth kind ≡ false
-plain depth kind h = rw h (and-false (eqb depth 0))
+ahead-loop-end : (frames : List ℕ) (at place : ℕ) (tl : List Record)
+    → ahead (suc at ∷ frames) place (endRecord ∷ tl) ≡ ahead frames (suc place) tl
+ahead-loop-end frames at place tl = rw (ne-eqb (suc at) 0 (omega arith))
 
 -- the look-ahead passes over a body
-pub ahead-flat : (b : Body) (depth at : ℕ) (tl : List Record)
-    → ahead depth at (flat b tl) ≡ ahead depth (behind at b) tl
-ahead-flat done depth at tl = refl
-ahead-flat (write p w v rest) depth at tl = rw (plain depth 1 refl) (ahead-flat rest depth (suc at) tl)
-ahead-flat (read p w rest) depth at tl = rw (plain depth 2 refl) (ahead-flat rest depth (suc at) tl)
-ahead-flat (delay n rest) depth at tl = rw (plain depth 3 refl) (ahead-flat rest depth (suc at) tl)
-ahead-flat (repeat n b rest) depth at tl =
-    rw (plain depth 4 refl)
-    (ahead-flat b (suc depth) (suc at) (endRecord ∷ flat rest tl)
-    ∙ end-block depth (behind (suc at) b) (flat rest tl)
-    ∙ ahead-flat rest depth (suc (behind (suc at) b)) tl)
-ahead-flat (if p w m b rest) depth at tl =
-    rw (plain depth 5 refl)
-    (ahead-flat b (suc depth) at (endRecord ∷ flat rest tl)
-    ∙ end-block depth (behind at b) (flat rest tl)
-    ∙ ap (λ (x : ℕ). ahead depth x (flat rest tl)) (sym (behind-suc b at))
-    ∙ ahead-flat rest depth (behind (suc at) b) tl)
-ahead-flat (ifElse p w m b c rest) depth at tl =
-    rw (plain depth 5 refl)
-    (ahead-flat b (suc depth) at (elseRecord ∷ flat c (endRecord ∷ flat rest tl))
-    ∙ else-block depth (behind at b) (flat c (endRecord ∷ flat rest tl))
-    ∙ ahead-flat c (suc depth) (suc (behind at b)) (endRecord ∷ flat rest tl)
-    ∙ end-block depth (behind (suc (behind at b)) c) (flat rest tl)
-    ∙ ap (λ (x : ℕ). ahead depth x (flat rest tl))
-    (sym (behind-suc c (suc (behind at b))) ∙ ap (λ (x : ℕ). behind (suc x) c) (sym (behind-suc b at)))
-    ∙ ahead-flat rest depth (behind (suc (behind (suc at) b)) c) tl)
+pub ahead-flat : (b : Body) (frames : List ℕ) (at : ℕ) (tl : List Record)
+    → ahead frames at (flat b tl) ≡ ahead frames (behind at b) tl
+ahead-flat done frames at tl = refl
+ahead-flat (write p w v rest) frames at tl =
+    ahead-word frames at (scriptRecord 1 w p v) (flat rest tl) refl refl ∙ ahead-flat rest frames (suc at) tl
+ahead-flat (read p w rest) frames at tl =
+    ahead-word frames at (scriptRecord 2 w p 0) (flat rest tl) refl refl ∙ ahead-flat rest frames (suc at) tl
+ahead-flat (delay n rest) frames at tl =
+    ahead-word frames at (scriptRecord 3 0 0 n) (flat rest tl) refl refl ∙ ahead-flat rest frames (suc at) tl
+ahead-flat (repeat n b rest) frames at tl =
+    ahead-word frames at (scriptRecord 4 0 0 n) (flat b (endRecord ∷ flat rest tl)) refl refl
+    ∙ ahead-flat b (suc at ∷ frames) (suc at) (endRecord ∷ flat rest tl)
+    ∙ ahead-loop-end frames at (behind (suc at) b) (flat rest tl)
+    ∙ ahead-flat rest frames (suc (behind (suc at) b)) tl
+ahead-flat (if p w m b rest) frames at tl =
+    ahead-word frames at (scriptRecord 5 w p m) (flat b (endRecord ∷ flat rest tl)) refl refl
+    ∙ ahead-flat b (0 ∷ frames) (suc at) (endRecord ∷ flat rest tl)
+    ∙ ahead-flat rest frames (behind (suc at) b) tl
+ahead-flat (ifElse p w m b c rest) frames at tl =
+    ahead-word frames at (scriptRecord 5 w p m) (flat b (elseRecord ∷ flat c (endRecord ∷ flat rest tl))) refl refl
+    ∙ ahead-flat b (0 ∷ frames) (suc at) (elseRecord ∷ flat c (endRecord ∷ flat rest tl))
+    ∙ ahead-flat c (0 ∷ frames) (suc (behind (suc at) b)) (endRecord ∷ flat rest tl)
+    ∙ ahead-flat rest frames (behind (suc (behind (suc at) b)) c) tl
 
 -- ---- where a block leads, looked at from its first record
-to-end : (at : ℕ) (b : Body) (tl : List Record) → ahead 0 at (flat b (endRecord ∷ tl)) ≡ behind at b
-to-end at b tl = ahead-flat b 0 at (endRecord ∷ tl)
+to-end : (at : ℕ) (b : Body) (tl : List Record) → ahead [] at (flat b (endRecord ∷ tl)) ≡ behind at b
+to-end at b tl = ahead-flat b [] at (endRecord ∷ tl)
 
-to-else : (at : ℕ) (b : Body) (tl : List Record) → ahead 0 at (flat b (elseRecord ∷ tl)) ≡ suc (behind at b)
-to-else at b tl = ahead-flat b 0 at (elseRecord ∷ tl)
+to-else : (at : ℕ) (b : Body) (tl : List Record) → ahead [] at (flat b (elseRecord ∷ tl)) ≡ suc (behind at b)
+to-else at b tl = ahead-flat b [] at (elseRecord ∷ tl)
 
 loop-end : (frames : List ℕ) (at place : ℕ) (tl : List Record)
     → emitFlat (suc at ∷ frames) place (endRecord ∷ tl) ≡ word 5 0 0 (suc at) 0 ∷ emitFlat frames (suc place) tl
@@ -124,17 +101,3 @@ pub emit-script :
     (script : List ℕ) → scriptRefusal script .number ≡ 0 → emitFlat [] 0 (recordsOf script) ≡ wordsOf script
 unfolding wordsOf scriptBody
 emit-script script h = emit-records (recordsOf script) (accepts script h .faultless)
-
--- a place looked ahead to is at most as many places on as there are records
-pub ahead-at-most : (rs : List Record) (depth place : ℕ) → ahead depth place rs ≤ place + length rs
-ahead-at-most [] depth place = omega arith
-ahead-at-most (r ∷ rs) depth place =
-    pick (stops depth (r .kind)) (eqb (r .kind) 6) (eqb (r .kind) 5)
-    (ahead-at-most rs (depthAfter depth (r .kind)) (cond (eqb (r .kind) 5) place (suc place)))
-  where
-    pick : (s e i : Bool) → ahead (depthAfter depth (r .kind)) (cond i place (suc place)) rs ≤ cond i place (suc place) + length rs
-        → cond s (cond e (suc place) place) (ahead (depthAfter depth (r .kind)) (cond i place (suc place)) rs) ≤ place + suc (length rs)
-    pick true true i h = omega arith
-    pick true false i h = omega arith
-    pick false e true h = omega arith
-    pick false e false h = omega arith

@@ -16,8 +16,8 @@ use Rattle.script.specs.declared.Found.{Found}
 use Rattle.compiler.specs.Compile.{compiled, compileRefusal, imageAfter, tooShort}
 use Rattle.compiler.specs.Words.{imageBytes, wordsOf}
 use Rattle.compiler.specs.declared.Compiled.{Compiled}
-use Rattle.compiler.proofs.Emitting.{counts}
 use Rattle.compiler.proofs.Places.{count-words}
+use Rattle.compiler.proofs.Walk.{counts}
 
 module _ (script image : List ℕ) (s : Found) (e : s ≡ scriptScan script) where
   number-is : s .number ≡ scriptRefusal script .number

@@ -1,12 +1,12 @@
 -- The image as it is written, word by word: the words written so far, and then the buffer as it was lent.
 -- Assumes nothing.
-use Prim.Native.Nat.{ℕ, suc, _+_, _-_, _*_, _≤_, _<_}
+use Prim.Native.Nat.{ℕ, _+_, _-_, _*_}
 use mathlib.Core.Path.{_≡_, refl, sym, ap, _∙_}
 use mathlib.Core.List.{List, [], _∷_, _++_, append-assoc, append-nil}
 use native.Mathlib.Omega.{arith}
 use borrow.Rule.Slice.PartMut.{putMid}
 use lib.ListN.{length, take, drop, length-append, length-drop}
-use lib.Seq.{drop-drop, drop-length, take-all, take-at, drop-append-seam, drop-at}
+use lib.Seq.{drop-drop, drop-length, take-all, take-at, drop-at}
 use Rattle.record.specs.Record.{bytesOf}
 use Rattle.record.specs.declared.Record.{Record}
 use Rattle.compiler.specs.Words.{imageBytes}
@@ -14,7 +14,6 @@ use Rattle.compiler.specs.Words.{imageBytes}
 -- a part that starts at i, with its front written over, put back
 pub put-part : (xs ys bs : List ℕ) (i n : ℕ) → n ≡ length xs - i → ys ≡ bs ++ drop 12 (take n (drop i xs))
     → putMid i n xs ys ≡ take i xs ++ (bs ++ drop 12 (drop i xs))
-unfolding putMid
 put-part xs ys bs i n e h =
     let l : length (drop i xs) ≡ n = length-drop i xs ∙ sym e in
     let t : take n (drop i xs) ≡ drop i xs = take-all n (drop i xs) (omega arith) in

@@ -1,31 +1,15 @@
--- The compiler's walk over the records as they lie, one after the other: where a block leads is looked ahead to, and the
--- open blocks are kept in frames. That it gives the words of the nested reading is a law (proofs/Ahead.antt).
-use Prim.Native.Nat.{ℕ, zero, suc, _-_, _≤_}
+-- The words by a walk over the records as they lie, one after the other: the open blocks are kept in frames, and where a
+-- block leads is looked ahead to. That it gives the words of the nested reading is a law (proofs/Ahead.antt). The code does not
+-- look ahead: it fills a table with the targets that the walk would find (proofs/Targets.antt).
+use Prim.Native.Nat.{ℕ, suc}
 use mathlib.Core.Path.{_≡_}
 use mathlib.Core.Bool.{Bool, cond, not, _&&_, _||_}
 use mathlib.Core.List.{List, [], _∷_}
 use lib.Dec.{eqb}
-use lib.ListN.{length}
+use lib.ListN.{getD}
 use Rattle.record.specs.declared.Record.{Record}
 use Rattle.script.specs.Refusals.{innermost, outer}
-use Rattle.script.specs.Scan.{stackOf}
 use Rattle.compiler.specs.Words.{halt, word}
-use Rattle.compiler.specs.declared.Frames.{Frames}
-
--- ---- the look-ahead ends at the end of the block, or at its else, with no block opened since
-abbrev pub stops : ℕ → ℕ → Bool
-stops depth kind = eqb depth 0 && (eqb kind 6 || eqb kind 7)
-
-abbrev pub depthAfter : ℕ → ℕ → ℕ
-depthAfter depth kind = cond (eqb kind 4 || eqb kind 5) (suc depth) (cond (eqb kind 7) (depth - 1) depth)
-
--- a block that is passed over has one word for each record, but its ifs have none for their end: they count 0 here, and
--- their ends 1
-abbrev pub ahead : ℕ → ℕ → List Record → ℕ
-ahead depth place [] = place
-ahead depth place (r ∷ rs) =
-    cond (stops depth (r .kind)) (cond (eqb (r .kind) 6) (suc place) place)
-    (ahead (depthAfter depth (r .kind)) (cond (eqb (r .kind) 5) place (suc place)) rs)
 
 -- ---- the frames are the open blocks, innermost first: 0 an if, else the place of a loop's body
 abbrev pub framesAfter : List ℕ → ℕ → ℕ → List ℕ
@@ -36,29 +20,44 @@ framesAfter frames place kind =
 abbrev pub gives : ℕ → ℕ → Bool
 gives frame kind = not (eqb kind 7 && eqb frame 0)
 
--- the word of a record, given its innermost frame and where the look-ahead leads
+abbrev pub placeAfter : ℕ → ℕ → ℕ → ℕ
+placeAfter frame place kind = cond (gives frame kind) (suc place) place
+
+-- ---- where a block leads: to its end, or behind the jump of its else; the frames are those of the blocks opened in it
+abbrev pub ahead : List ℕ → ℕ → List Record → ℕ
+ahead frames place [] = place
+ahead [] place (r ∷ rs) =
+    cond (eqb (r .kind) 7) place
+    (cond (eqb (r .kind) 6) (suc place) (ahead (framesAfter [] place (r .kind)) (suc place) rs))
+ahead (f ∷ fs) place (r ∷ rs) =
+    ahead (framesAfter (f ∷ fs) place (r .kind)) (placeAfter f place (r .kind)) rs
+
+-- ---- the word of a record, given its innermost frame and where the look-ahead leads
+-- a word's kind: a test is 6, the jump of an else 7, a loop end 5
+abbrev pub wordKind : ℕ → ℕ
+wordKind kind = cond (eqb kind 5) 6 (cond (eqb kind 6) 7 (cond (eqb kind 7) 5 kind))
+
+-- "Enter aims behind its loop end, loop end at its body, test behind its else's jump or at its end, else at its end."
+abbrev pub targetFor : ℕ → ℕ → ℕ → ℕ
+targetFor frame lead kind =
+    cond (eqb kind 7) frame (cond (eqb kind 4) (suc lead) (cond (eqb kind 5 || eqb kind 6) lead 0))
+
+-- the other fields are the record's: those that it does not use are 0
 abbrev pub wordFor : ℕ → ℕ → Record → Record
 wordFor frame lead r =
-    cond (eqb (r .kind) 1) (word 1 (r .width) (r .port) 0 (r .value))
-    (cond (eqb (r .kind) 2) (word 2 (r .width) (r .port) 0 0)
-    (cond (eqb (r .kind) 3) (word 3 0 0 0 (r .value))
-    (cond (eqb (r .kind) 4) (word 4 0 0 (suc lead) (r .value))
-    (cond (eqb (r .kind) 5) (word 6 (r .width) (r .port) lead (r .value))
-    (cond (eqb (r .kind) 6) (word 7 0 0 lead 0) (word 5 0 0 frame 0))))))
+    word (wordKind (r .kind)) (r .width) (r .port) (targetFor frame lead (r .kind)) (r .value)
 
 abbrev pub emitFlat : List ℕ → ℕ → List Record → List Record
 emitFlat frames place [] = halt ∷ []
 emitFlat frames place (r ∷ rs) =
     cond (gives (innermost frames) (r .kind))
-    (wordFor (innermost frames) (ahead 0 (suc place) rs) r
+    (wordFor (innermost frames) (ahead [] (suc place) rs) r
     ∷ emitFlat (framesAfter frames place (r .kind)) (suc place) rs)
     (emitFlat (framesAfter frames place (r .kind)) place rs)
 
--- ---- the frames as the code keeps them
-abbrev pub framesOf : Frames → List ℕ
-framesOf f = stackOf (f .depth) (f .starts)
-
--- there is room for 16 frames, and no more are kept
-pub record Held (f : Frames) : Type 0 where
-  pub deep : f .depth ≤ 16
-  pub sized : length (f .starts) ≡ 16
+-- ---- a table that has the target of each record, from record k on
+abbrev pub Aimed : List ℕ → ℕ → List ℕ → ℕ → List Record → Type 0
+Aimed targets k frames place [] = Unit {0}
+Aimed targets k frames place (r ∷ rs) =
+    (getD targets k 0 ≡ targetFor (innermost frames) (ahead [] (suc place) rs) (r .kind))
+    × Aimed targets (suc k) (framesAfter frames place (r .kind)) (placeAfter (innermost frames) place (r .kind)) rs

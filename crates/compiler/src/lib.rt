@@ -1,17 +1,17 @@
 // The compiler: script bytes in, words into a lent image buffer, the word count or a refusal out.
 use record::Record;
 ghost use mathlib.Core.Path.{_≡_};
-ghost use mathlib.Core.Bool.{false, cond, _||_};
-ghost use mathlib.Core.List.{_∷_, _++_};
-ghost use Prim.Native.Nat.{suc, _+_, _*_, _-_, _≤_, _<_, _/_};
+ghost use mathlib.Core.Bool.{cond};
+ghost use mathlib.Core.List.{[], _++_};
+ghost use Prim.Native.Nat.{_+_, _*_, _≤_, _/_};
 ghost use lib.Dec.{eqb, ltb};
-ghost use lib.ListN.{length, take, drop};
-ghost use Rattle.record.specs.Record.{bytesOf};
-ghost use Rattle.script.specs.Records.{recordsFrom, recordsOf};
-ghost use Rattle.script.specs.Refusals.{scriptRefusal, innermost};
+ghost use lib.ListN.{length, take, drop, replicate};
+ghost use Rattle.record.specs.Record.{bytesOf, recordAt};
+ghost use Rattle.script.specs.Records.{recordsOf};
+ghost use Rattle.script.specs.Refusals.{scriptRefusal};
 ghost use Rattle.compiler.specs.Compile.{compiled, imageAfter};
-ghost use Rattle.compiler.specs.Emit.{stops, depthAfter, ahead, gives, framesAfter, wordFor, framesOf, Held};
-ghost use Rattle.compiler.specs.Words.{word, halt, imageBytes, wordsOf};
+ghost use Rattle.compiler.specs.Emit.{Aimed, gives, placeAfter, wordKind};
+ghost use Rattle.compiler.specs.Words.{word, imageBytes, wordsOf};
 
 // Number 0 and the words written, or a refusal with its place.
 pub struct Compiled {
@@ -20,92 +20,88 @@ pub struct Compiled {
     pub words: u32,
 }
 
-// The open blocks, innermost last: 0 an if, else the place of a loop's body.
-pub struct Frames {
-    pub starts: [u32; 16],
-    pub depth: usize,
-}
+// The kinds of the words that have not the kind of their record.
+const LOOP_END: u32 = 5;
 
-// ---- the look-ahead
+const TEST: u32 = 6;
 
-fn stops(depth: usize, kind: u32) -> bool
-    ensures { λ r. ⌜ r ≡ stops depth kind ⌝ }
+const JUMP: u32 = 7;
+
+const HALT: u32 = 8;
+
+// ---- the targets
+
+// The kind of record k, which is all that the targets go by.
+fn kind_of(script: &[u8], k: usize) -> u32
+    requires { ⌜ 12 * k + 12 ≤ length (now script) ⌝ }
+    ensures { λ r. ⌜ r ≡ recordAt (now (script .entry)) (12 * k) .kind ⌝ }
 {
-    if depth != 0 {
-        return false;
-    }
-    if kind == script::ELSE {
-        return true;
-    }
-    kind == script::END
+    script[12 * k + 2] as u32
 }
 
-fn depth_after(depth: usize, kind: u32) -> usize
-    requires { ⌜ depth < 2000 ⌝ }
-    ensures { λ r. ⌜ r ≡ depthAfter depth kind ⌝ }
-{
-    if kind == script::REPEAT {
-        return depth + 1;
-    }
-    if kind == script::IF {
-        return depth + 1;
-    }
-    if kind == script::END {
-        if depth == 0 {
-            return 0;
-        }
-        return depth - 1;
-    }
-    depth
-}
-
-// The place behind a record that is passed over: an if counts none, since its end, which gives no word, counts one.
-fn counted(at: u32, kind: u32) -> u32
-    requires { ⌜ at < 4000 ⌝ }
-    ensures { λ r. ⌜ r ≡ cond (eqb kind 5) at (suc at) ⌝ }
+// What is kept of a block that opens: 0 for an if, the place of its body for a repeat.
+fn start_of(kind: u32, body: u32) -> u32
+    ensures { λ r. ⌜ r ≡ cond (eqb kind 5) 0 body ⌝ }
 {
     if kind == script::IF {
-        return at;
+        return 0;
     }
-    at + 1
+    body
 }
 
-fn stopped(at: u32, kind: u32) -> u32
-    requires { ⌜ at < 4000 ⌝ }
-    ensures { λ r. ⌜ r ≡ cond (eqb kind 6) (suc at) at ⌝ }
+// The place behind a block whose end stands at `place`: the end of an if gives no word.
+fn behind_end(start: u32, place: u32) -> u32
+    requires { ⌜ place ≤ 1024 ⌝ }
+    ensures { λ r. ⌜ r ≡ placeAfter start place 7 ⌝ }
 {
-    if kind == script::ELSE {
-        return at + 1;
+    if start == 0 {
+        return place;
     }
-    at
+    place + 1
 }
 
-// Where the block leads that is open at the record `from`, whose word would stand at `place`: to its end, or behind the
-// jump of its else.
-fn look(script: &[u8], count: usize, from: usize, place: u32) -> u32
-    requires { ⌜ (12 * count ≤ length (now script)) × (count ≤ 1024) ⌝ }
-    requires { ⌜ (from ≤ count) × (place ≤ 1100) ⌝ }
-    ensures { λ r. ⌜ r ≡ ahead 0 place (recordsFrom (count - from) from (now (script .entry))) ⌝ }
+// The target of each word, at its record's number: a loop end aims at its body; an enter, a test or an else waits for its
+// block's end, or a test for its else, and aims behind it.
+fn fill_targets(script: &[u8], count: usize, targets: &mut [u32; 1024])
+    requires { ⌜ (count ≡ length (now script) / 12) × (scriptRefusal (now script) .number ≡ 0) ⌝ }
+    requires { ⌜ now targets ≡ replicate 1024 0 ⌝ }
+    ensures { λ _. ⌜ Aimed (now (targets .exit)) 0 [] 0 (recordsOf (now (script .entry))) ⌝ }
 {
+    // The open blocks: the record of each that waits, and what is kept of its start.
+    let mut waiting: [usize; 16] = [0; 16];
+    let mut starts: [u32; 16] = [0; 16];
     let mut depth: usize = 0;
-    let mut at = place;
-    let mut next = from;
-    while next < count {
-        let r = record::read(script, 12 * next);
-        // A write, a read or a delay is passed over at once: most records are such.
-        if r.kind <= script::DELAY {
-            at = at + 1;
-            next = next + 1;
+    let mut place: u32 = 0;
+    let mut k: usize = 0;
+    while k < count {
+        let kind = kind_of(script, k);
+        let behind = place + 1;
+        let next = k + 1;
+        if kind <= script::DELAY {
+            place = behind;
+        } else if kind <= script::IF {
+            // A repeat or an if.
+            waiting[depth] = k;
+            starts[depth] = start_of(kind, behind);
+            depth = depth + 1;
+            place = behind;
+        } else if kind == script::ELSE {
+            // The jump waits in place of its test.
+            let test = waiting[depth - 1];
+            targets[test] = behind;
+            waiting[depth - 1] = k;
+            place = behind;
         } else {
-            if stops(depth, r.kind) {
-                return stopped(at, r.kind);
-            }
-            at = counted(at, r.kind);
-            depth = depth_after(depth, r.kind);
-            next = next + 1;
+            depth = depth - 1;
+            let start = starts[depth];
+            let opened = waiting[depth];
+            let behind_block = behind_end(start, place);
+            targets[k] = start;
+            targets[opened] = behind_block;
+            place = behind_block;
         }
+        k = next;
     }
-    at
 }
 
 // ---- the words
@@ -123,109 +119,30 @@ fn word(kind: u32, width: u32, port: u32, target: u32, value: u32) -> Record
     }
 }
 
-fn gives(frame: u32, kind: u32) -> bool
-    ensures { λ r. ⌜ r ≡ gives frame kind ⌝ }
+// The kind of a record's word.
+fn word_kind(kind: u32) -> u32
+    ensures { λ r. ⌜ r ≡ wordKind kind ⌝ }
 {
-    if kind == script::END {
-        return frame != 0;
-    }
-    true
-}
-
-// The word of record k, which stands at `place`.
-fn word_of(script: &[u8], count: usize, k: usize, place: u32, frame: u32, r: Record) -> Record
-    requires { ⌜ (12 * count ≤ length (now script)) × (count ≤ 1024) ⌝ }
-    requires { ⌜ (k < count) × (place < 1100) ⌝ }
-    ensures { λ w. ⌜ w ≡ wordFor frame (ahead 0 (suc place) (recordsFrom (count - suc k) (suc k) (now (script .entry)))) r ⌝ }
-{
-    let kind = r.kind;
-    if kind == script::WRITE {
-        return word(1, r.width, r.port, 0, r.value);
-    }
-    if kind == script::READ {
-        return word(2, r.width, r.port, 0, 0);
-    }
-    if kind == script::DELAY {
-        return word(3, 0, 0, 0, r.value);
-    }
-    if kind == script::REPEAT {
-        let lead = look(script, count, k + 1, place + 1);
-        return word(4, 0, 0, behind(lead), r.value);
-    }
     if kind == script::IF {
-        let lead = look(script, count, k + 1, place + 1);
-        return word(6, r.width, r.port, lead, r.value);
+        return TEST;
     }
     if kind == script::ELSE {
-        let lead = look(script, count, k + 1, place + 1);
-        return word(7, 0, 0, lead, 0);
+        return JUMP;
     }
-    word(5, 0, 0, frame, 0)
+    if kind == script::END {
+        return LOOP_END;
+    }
+    kind
 }
 
-// Behind a loop's end.
-fn behind(end: u32) -> u32
-    requires { ⌜ end < 4000 ⌝ }
-    ensures { λ r. ⌜ r ≡ suc end ⌝ }
+// The end of an if gives no word, and has no target.
+fn gives(target: u32, kind: u32) -> bool
+    ensures { λ r. ⌜ r ≡ gives target kind ⌝ }
 {
-    end + 1
-}
-
-// ---- the frames
-
-impl Frames {
-    fn none() -> Self
-        ensures { λ f. ⌜ Held f × (f .depth ≡ 0) ⌝ }
-    {
-        Frames {
-            starts: [0; 16],
-            depth: 0,
-        }
+    if kind == script::END {
+        return target != 0;
     }
-
-    fn innermost(self) -> u32
-        requires { ⌜ Held self ⌝ }
-        ensures { λ r. ⌜ r ≡ innermost (framesOf self) ⌝ }
-    {
-        let depth = self.depth;
-        if depth == 0 {
-            return 0;
-        }
-        self.starts[depth - 1]
-    }
-
-    fn pushed(mut self, start: u32) -> Self
-        requires { ⌜ Held self × (self .depth < 16) ⌝ }
-        ensures { λ r. ⌜ Held r × (framesOf r ≡ start ∷ framesOf self) ⌝ }
-    {
-        let depth = self.depth;
-        self.starts[depth] = start;
-        self.depth = depth + 1;
-        self
-    }
-
-    // The frames behind a record; there is room for one that opens a block.
-    fn after(mut self, place: u32, kind: u32) -> Self
-        requires { ⌜ Held self × (place < 1100) ⌝ }
-        requires { ⌜ (self .depth ≡ 16 → (eqb kind 4 || eqb kind 5) ≡ false) ⌝ }
-        ensures { λ r. ⌜ Held r × (framesOf r ≡ framesAfter (framesOf self) place kind) ⌝ }
-    {
-        if kind == script::REPEAT {
-            return self.pushed(place + 1);
-        }
-        if kind == script::IF {
-            return self.pushed(0);
-        }
-        if kind == script::END {
-            let depth = self.depth;
-            if depth == 0 {
-                return self;
-            }
-            self.depth = depth - 1;
-            return self;
-        }
-        self
-    }
+    true
 }
 
 // ---- the image
@@ -258,24 +175,23 @@ fn emit(script: &[u8], count: usize, image: &mut [u8])
     requires { ⌜ 12 * length (wordsOf (now script)) ≤ length (now image) ⌝ }
     ensures { λ _. ⌜ now (image .exit) ≡ imageBytes (wordsOf (now (script .entry))) ++ drop (12 * length (wordsOf (now (script .entry)))) (now (image .entry)) ⌝ }
 {
-    let mut frames = Frames::none();
+    let mut targets: [u32; 1024] = [0; 1024];
+    fill_targets(script, count, &mut targets);
     let mut place: u32 = 0;
     let mut k: usize = 0;
     while k < count {
         let r = record::read(script, 12 * k);
-        let frame = frames.innermost();
-        if gives(frame, r.kind) {
-            let w = word_of(script, count, k, place, frame, r);
-            put(image, place, w);
-            frames = frames.after(place, r.kind);
+        let target = targets[k];
+        let next = k + 1;
+        if gives(target, r.kind) {
+            let kind = word_kind(r.kind);
+            // A field that the record does not use is 0, and so it is in the word.
+            put(image, place, word(kind, r.width, r.port, target, r.value));
             place = place + 1;
-            k = k + 1;
-        } else {
-            frames = frames.after(place, r.kind);
-            k = k + 1;
         }
+        k = next;
     }
-    put(image, place, word(8, 0, 0, 0, 0));
+    put(image, place, word(HALT, 0, 0, 0, 0));
 }
 
 // Refusal 9: a buffer of `length` bytes does not hold so many words.
