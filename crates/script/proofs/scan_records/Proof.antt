@@ -9,6 +9,7 @@ use borrow.Author.Needs.{needs}
 use lib.Dec.{eqb}
 use lib.ListN.{getD}
 use Rattle.script.proofs.Scanning.{
+  anywhere,
   at-most-one,
   depth-last,
   faulty,
@@ -16,9 +17,10 @@ use Rattle.script.proofs.Scanning.{
   further,
   Going,
   good,
-  ninth-is-deep,
+  ninth-repeat,
   not-deep,
   place-next,
+  Placed,
   repeats-more,
   scan-done,
   scan-faulted,
@@ -29,31 +31,26 @@ use Rattle.script.proofs.Scanning.{
   walks,
 }
 use Rattle.script.specs.Records.{recordsFrom}
-use Rattle.script.specs.Refusals.{firstFault, givesWord, refusal, repeatsIn}
-use Rattle.script.specs.Scan.{blocksOf, stackOf}
-use borrow.Author.Tests.{eq-eqb, ne-eqb}
-use Rattle.script.specs.Scan.{recordsScan}
+use Rattle.script.specs.Refusals.{firstFault, givesWord, recordFault, refusal, repeatsIn}
+use Rattle.script.specs.Scan.{recordsScan, stackOf}
 use Rattle.script.proofs.scan_records.Statement.{statement}
 use Rattle.script.proofs.scan_records.Tie as tie
 
 abbrev Inv-loop : tie.InvT-loop
-Inv-loop script count «open» words number₀ k kind shape blocks walk repeats₀ b₀ number repeats b =
+Inv-loop script count blocks depth words number₀ k kind shape walk repeats₀ b₀ number repeats b =
     (b ≤ walk) × (repeats ≡ repeatsIn (stackOf b blocks)) × (repeats < 8) × (number ≡ number₀)
 
 abbrev μ-loop : tie.MeasureT-loop
-μ-loop script count «open» words number₀ k kind shape blocks walk repeats₀ b₀ number repeats b = walk - b
+μ-loop script count blocks depth words number₀ k kind shape walk repeats₀ b₀ number repeats b = walk - b
 
 abbrev Inv-scan : tie.InvT-scan
-Inv-scan script count open₀ words₀ number₀ k₀ «open» words number k = Going script count «open» words number k
+Inv-scan script count blocks₀ depth₀ words₀ number₀ k₀ blocks depth words number k = Going script count blocks depth words number k
 
 abbrev μ-scan : tie.MeasureT-scan
-μ-scan script count open₀ words₀ number₀ k₀ «open» words number k = count - k
-
-none-requires : tie.Need-none-requires Inv-loop μ-loop Inv-scan μ-scan
-none-requires c κs = search needs
+μ-scan script count blocks₀ depth₀ words₀ number₀ k₀ blocks depth words number k = count - k
 
 scan-holds : tie.Need-scan-holds Inv-loop μ-loop Inv-scan μ-scan
-scan-holds c = starts _ _ _ (c .none .ensures .0) (c .none .ensures .1)
+scan-holds c = starts _ _ _ refl
 
 mul-read : tie.Need-mul-read Inv-loop μ-loop Inv-scan μ-scan
 mul-read c = omega arith
@@ -64,11 +61,19 @@ read-requires c κs = omega arith
 shape-fault-requires : tie.Need-shape-fault-requires Inv-loop μ-loop Inv-scan μ-scan
 shape-fault-requires c κs = search needs
 
-misplaced-requires : tie.Need-misplaced-requires Inv-loop μ-loop Inv-scan μ-scan
-misplaced-requires c κs = c .before .before .before .before .scan .inv .kept
+is-misplaced-requires : tie.Need-is-misplaced-requires Inv-loop μ-loop Inv-scan μ-scan
+is-misplaced-requires c κs = c .before .before .before .before .before .before .scan .inv .kept .deep
 
 is-full-requires : tie.Need-is-full-requires Inv-loop μ-loop Inv-scan μ-scan
 is-full-requires c κs = search needs
+
+-- where the record may stand: a write, a read or a delay anywhere, another where the two tests let it through
+placed : (c : tie.Joined2 Inv-loop μ-loop Inv-scan μ-scan)
+    → Placed (c .before .before .before .before .before .scan .blocks) (c .before .before .before .before .before .scan .depth) (c .before .before .before .read .result .kind)
+placed c =
+    ⊎-elim
+    (λ w. record { fits = sym (w .2 .ensures) ∙ w .3 .left; room = sym (w .4 .ensures) ∙ w .5 .left })
+    (λ w. anywhere _ _ _ (w .left)) (c .if2 .came)
 
 walk-requires : tie.Need-walk-requires Inv-loop μ-loop Inv-scan μ-scan
 walk-requires c κs = search needs
@@ -78,18 +83,22 @@ loop-holds c = (omega arith, refl, omega arith, refl)
 
 array-read-is-repeat : tie.Need-array-read-is-repeat Inv-loop μ-loop Inv-scan μ-scan
 array-read-is-repeat c =
+    let j = c .before .before .before in
+    let s = j .before .before .before .before .before .scan in
     omega (
       arith,
       c .before .before .walk .ensures,
-      walk-within (eqb (c .before .before .before .before .before .before .before .before .before .before .read .result .kind) 4) (c .before .before .before .before .before .before .before .before .before .before .before .before .scan .«open» .depth),
-      c .before .before .before .before .before .before .before .before .before .before .before .before .scan .inv .kept .deep,
+      walk-within (eqb (j .before .before .before .read .result .kind) 4) (s .depth),
+      s .inv .kept .deep,
     )
 
 is-repeat-requires : tie.Need-is-repeat-requires Inv-loop μ-loop Inv-scan μ-scan
 is-repeat-requires c κs = search needs
 
 add-repeats : tie.Need-add-repeats Inv-loop μ-loop Inv-scan μ-scan
-add-repeats c = omega (arith, c .is-repeat .ensures, at-most-one (eqb (getD (c .before .before .before .before .before .before .before .before .before .before .before .before .before .scan .«open» .blocks) (c .before .before .loop .b) 0) 4))
+add-repeats c =
+    let s = c .before .before .before .before .before .before .before .before .before .scan in
+    omega (arith, c .is-repeat .ensures, at-most-one (eqb (getD (s .blocks) (c .before .before .loop .b) 0) 4))
 
 add-b : tie.Need-add-b Inv-loop μ-loop Inv-scan μ-scan
 add-b c = omega arith
@@ -99,32 +108,51 @@ loop-less c = omega arith
 
 loop-again : tie.Need-loop-again Inv-loop μ-loop Inv-scan μ-scan
 loop-again c =
-    let one = at-most-one (eqb (getD (c .before .before .before .before .before .before .before .before .before .before .before .before .before .before .scan .«open» .blocks) (c .before .before .before .loop .b) 0) 4) in
-    let i = c .before .before .before .loop .inv in (
+    let s = c .before .before .before .before .before .before .before .before .before .before .scan in
+    let l = c .before .before .before .loop in
+    let i = l .inv in
+    let one = at-most-one (eqb (getD (s .blocks) (l .b) 0) 4) in (
       omega arith,
-      (rw (c .before .is-repeat .ensures, i .1) (sym (repeats-more (c .before .before .before .loop .b) (c .before .before .before .before .before .before .before .before .before .before .before .before .before .before .scan .«open» .blocks)))),
-      omega (arith, c .before .is-repeat .ensures, one, i .2, c .if4 .left),
+      (rw (c .before .is-repeat .ensures, i .1) (sym (repeats-more (l .b) (s .blocks)))),
+      omega (arith, c .before .is-repeat .ensures, one, i .2, c .if5 .left),
       i .3,
     )
 
+-- a record that the walk lets through has no fault
+sound : (c : tie.After-loop Inv-loop μ-loop Inv-scan μ-scan)
+    → recordFault (stackOf (c .before .before .before .before .before .before .before .before .scan .depth) (c .before .before .before .before .before .before .before .before .scan .blocks)) (c .before .before .before .before .before .before .read .result) ≡ 0
+sound c =
+    let l = c .before .loop in
+    let w = c .before .before .walk in
+    let j = c .before .before .before in
+    let s = j .before .before .before .before .before .scan in
+    let f = j .before .before in
+    let r = f .before .read .result in
+    let p = placed j in
+    let e : l .b ≡ w .result = omega arith in
+    let few : repeatsIn (stackOf (cond (eqb (r .kind) 4) (s .depth) 0) (s .blocks)) < 8 =
+    rw (w .ensures) at (rw e at (rw (l .inv .1) at (l .inv .2))) in
+    good _ r (sym (f .shape-fault .ensures) ∙ j .before .if1 .left) (p .fits) (not-deep (s .blocks) (s .depth) (r .kind) (p .room) few)
+
 gives-requires : tie.Need-gives-requires Inv-loop μ-loop Inv-scan μ-scan
-gives-requires c κs = c .before .before .before .before .before .before .before .before .before .before .before .before .scan .inv .kept
+gives-requires c κs = c .before .before .before .before .before .before .before .before .before .scan .inv .kept .deep
 
 add-words : tie.Need-add-words Inv-loop μ-loop Inv-scan μ-scan
 add-words c =
+    let s = c .before .before .before .before .before .before .before .before .before .before in
     omega (
       arith,
       c .gives .ensures,
-      at-most-one (givesWord (blocksOf (c .before .before .before .before .before .before .before .before .before .before .before .before .before .scan .«open»)) (c .before .before .before .before .before .before .before .before .before .before .before .read .result .kind)),
-      c .before .before .before .before .before .before .before .before .before .before .before .before .before .scan .inv .few,
-      c .before .before .before .before .before .before .before .before .before .before .before .before .before .before .before .before .pre .0,
+      at-most-one (givesWord (stackOf (s .scan .depth) (s .scan .blocks)) (c .before .before .before .before .before .before .before .before .read .result .kind)),
+      s .scan .inv .few,
+      s .before .before .pre .0,
     )
 
 after-requires : tie.Need-after-requires Inv-loop μ-loop Inv-scan μ-scan
-after-requires c κs = (
-  c .before .before .before .before .before .before .before .before .before .before .before .before .before .scan .inv .kept,
-  (sym (c .before .before .before .before .before .before .is-full .ensures) ∙ c .before .before .before .before .before .if3 .left, sym (c .before .before .before .before .before .before .before .before .misplaced .ensures) ∙ c .before .before .before .before .before .before .before .if2 .left),
-)
+after-requires c κs =
+    let j = c .before .before .before .before .before .before in
+    let p = placed j in
+    (j .before .before .before .before .before .scan .inv .kept, (p .room, p .fits))
 
 add-k : tie.Need-add-k Inv-loop μ-loop Inv-scan μ-scan
 add-k c = omega arith
@@ -134,94 +162,92 @@ scan-less c = omega arith
 
 scan-again : tie.Need-scan-again Inv-loop μ-loop Inv-scan μ-scan
 scan-again c =
-    let o = c .before .before .before .before .before .before .before .before .before .before .before .before .before .before .scan .«open» in
-    let r = c .before .before .before .before .before .before .before .before .before .before .before .before .read .result in
-    let i = c .before .before .before .loop .inv in
-    let g = c .before .before .before .before .before .before .before .before .before .before .before .before .before .before .scan .inv in
-    let e : c .before .before .before .loop .b ≡ c .before .before .before .before .walk .result = omega arith in
-    let fits : repeatsIn (stackOf (cond (eqb (r .kind) 4) (o .depth) 0) (o .blocks)) < 8 =
-    rw (c .before .before .before .before .walk .ensures) at (rw e at (rw (i .1) at (i .2))) in
-    let deep = not-deep o (r .kind) (sym (c .before .before .before .before .before .before .before .is-full .ensures) ∙ c .before .before .before .before .before .before .if3 .left) fits in
-    let z = good o r (sym (c .before .before .before .before .before .before .before .before .before .before .before .shape-fault .ensures) ∙ c .before .before .before .before .before .before .before .before .before .before .if1 .left) (sym (c .before .before .before .before .before .before .before .before .before .misplaced .ensures) ∙ c .before .before .before .before .before .before .before .before .if2 .left) deep in
-    rw (c .before .gives .ensures)
-    (further _ _ o (c .after .result) _ _ _ _ r g (c .before .before .before .before .before .before .before .before .before .before .before .before .before .scan-test .taken) (c .before .before .before .before .before .before .before .before .before .before .before .before .read .ensures) (c .after .ensures .0)
-    (i .3 ∙ g .clear) z (c .after .ensures .1))
+    let a = c .before .before .before .before in
+    let j = a .before .before .before in
+    let s = j .before .before .before .before .before .scan in
+    let r = j .before .before .before .read in
+    rw (c .before .before .gives .ensures)
+    (further _ _ (s .blocks) (s .depth) _ _ _ (s .inv) (r .result) (c .after .last .0) (c .after .result) _
+    (j .before .before .before .before .scan-test .taken) (r .ensures) (c .after .ensures .0)
+    (a .before .loop .inv .3 ∙ s .inv .clear) (sound a) (c .after .ensures .1))
 
 -- how the scan ended: behind the last record, or at a fault
 abbrev Ended : tie.Left-scan Inv-loop μ-loop Inv-scan μ-scan → Type 0
 Ended c =
-    ((c .scan-test .number ≡ 0) × (c .before .before .before .before .args .count ≤ c .before .scan .k))
-    ⊎ ((firstFault [] 0 (recordsFrom (c .before .before .before .before .args .count) 0 (c .before .before .before .before .args .script .now))
+    ((c .scan-test .number ≡ 0) × (c .before .before .before .args .count ≤ c .before .scan .k))
+    ⊎ ((firstFault [] 0 (recordsFrom (c .before .before .before .args .count) 0 (c .before .before .before .args .script .now))
     ≡ refusal (c .scan-test .number) (c .before .scan .k))
     × (c .scan-test .number ≡ 0 → ⊥))
 
 ended : (c : tie.Left-scan Inv-loop μ-loop Inv-scan μ-scan) → Ended c
 ended c =
-    let o = c .before .scan .«open» in
-    let g = c .before .scan .inv in
+    let s = c .before .scan in
+    let g = s .inv in
     ⊎-elim (λ w. inl (w .1 ∙ g .clear, w .0 .left))
     (⊎-elim
     (λ w.
     let r = w .1 .result in
     let n = w .2 .result in
-    let f = faulty _ _ o _ _ _ n r g (w .0 .taken) (w .1 .ensures) (shape-first o r n (w .2 .ensures) (w .3 .taken)) (w .3 .taken) in
+    let f = faulty _ _ _ _ _ _ _ g r n (w .0 .taken) (w .1 .ensures) (shape-first _ r n (w .2 .ensures) (w .3 .taken)) (w .3 .taken) in
     inr (rw (w .4) (f, w .3 .taken)))
     (⊎-elim
     (λ w.
     let r = w .1 .result in
     let e = sym (w .2 .ensures) ∙ w .3 .left in
-    let f = faulty _ _ o _ _ _ 5 r g (w .0 .taken) (w .1 .ensures) (place-next o r e (sym (w .4 .ensures) ∙ w .5 .taken)) (λ q. omega arith) in
-    inr (rw (w .6) (f, λ q. omega arith)))
+    let m = sym (w .6 .ensures) ∙ w .7 .taken in
+    let f = faulty _ _ _ _ _ _ _ g r 5 (w .0 .taken) (w .1 .ensures) (place-next _ r e m) (λ q. omega arith) in
+    inr (rw (w .8) (f, λ q. omega arith)))
     (⊎-elim
     (λ w.
     let r = w .1 .result in
     let e = sym (w .2 .ensures) ∙ w .3 .left in
-    let m = sym (w .4 .ensures) ∙ w .5 .left in
-    let t = full-is-deep o (r .kind) (sym (w .6 .ensures) ∙ w .7 .taken) in
-    let f = faulty _ _ o _ _ _ 6 r g (w .0 .taken) (w .1 .ensures) (depth-last o r e m t) (λ q. omega arith) in
-    inr (rw (w .8) (f, λ q. omega arith)))
+    let m = sym (w .6 .ensures) ∙ w .7 .left in
+    let t = full-is-deep (s .blocks) (s .depth) (r .kind) (sym (w .8 .ensures) ∙ w .9 .taken) in
+    let f = faulty _ _ _ _ _ _ _ g r 6 (w .0 .taken) (w .1 .ensures) (depth-last _ r e m t) (λ q. omega arith) in
+    inr (rw (w .10) (f, λ q. omega arith)))
     (λ w.
     let r = w .1 .result in
     let e = sym (w .2 .ensures) ∙ w .3 .left in
-    let m = sym (w .4 .ensures) ∙ w .5 .left in
-    let b = w .10 .b in
-    let four = walks (r .kind) (o .depth) b (rw (w .9 .ensures) at (w .11 .taken)) in
-    let eight : repeatsIn (stackOf (b + 1) (o .blocks)) ≡ 8 =
-    repeats-more b (o .blocks) ∙ (rw (← (w .10 .inv .1), ← (w .12 .ensures)) (w .13 .taken)) in
-    let l : b + 1 ≤ o .depth = omega (arith, w .11 .taken, w .9 .ensures, walk-within (eqb (r .kind) 4) (o .depth)) in
-    let t = ninth-is-deep o (r .kind) (b + 1) four l eight in
-    let f = faulty _ _ o _ _ _ 6 r g (w .0 .taken) (w .1 .ensures) (depth-last o r e m t) (λ q. omega arith) in
-    inr (rw (w .14) (f, λ q. omega arith))))))
+    let b = w .6 .b in
+    let four = walks (r .kind) (s .depth) b (rw (w .5 .ensures) at (w .7 .taken)) in
+    let eight : repeatsIn (stackOf (b + 1) (s .blocks)) ≡ 8 =
+    repeats-more b (s .blocks) ∙ (rw (← (w .6 .inv .1), ← (w .8 .ensures)) (w .9 .taken)) in
+    let l : b + 1 ≤ s .depth = omega (arith, w .7 .taken, w .5 .ensures, walk-within (eqb (r .kind) 4) (s .depth)) in
+    let f = faulty _ _ _ _ _ _ _ g r 6 (w .0 .taken) (w .1 .ensures) (ninth-repeat (s .blocks) (s .depth) (b + 1) r e four l eight) (λ q. omega arith) in
+    inr (rw (w .10) (f, λ q. omega arith))))))
     (c .scan-test .came)
 
-cast-t25 : tie.Need-cast-t25 Inv-loop μ-loop Inv-scan μ-scan
-cast-t25 c = omega (arith, c .before .before .scan .inv .inside, c .before .before .before .before .before .pre .0)
+refused-requires : tie.Need-refused-requires Inv-loop μ-loop Inv-scan μ-scan
+refused-requires c κs = omega (arith, c .before .before .scan .inv .inside, c .before .before .before .before .pre .0)
 
 returns : tie.Need-returns Inv-loop μ-loop Inv-scan μ-scan
 returns c =
-    ⊎-elim (λ w. absurd (c .if5 .taken (w .0)))
-    (λ w. scan-faulted _ _ _ _ (c .before .before .before .before .before .pre .1) (w .0) (w .1)) (ended (c .before))
+    ⊎-elim (λ w. absurd (c .before .if6 .taken (w .0)))
+    (λ w. c .refused .ensures ∙ scan-faulted _ _ _ _ (c .before .before .before .before .before .pre .1) (w .0) (w .1)) (ended (c .before .before))
 
 innermost-requires : tie.Need-innermost-requires Inv-loop μ-loop Inv-scan μ-scan
-innermost-requires c κs = c .before .before .scan .inv .kept
+innermost-requires c κs = c .before .before .before .scan .inv .kept .deep
 
-cast-t27 : tie.Need-cast-t27 Inv-loop μ-loop Inv-scan μ-scan
-cast-t27 c =
-    omega (arith, c .before .before .before .before .scan .inv .inside, c .before .before .before .before .before .before .before .pre .0)
+refused-requires-2 : tie.Need-refused-requires-2 Inv-loop μ-loop Inv-scan μ-scan
+refused-requires-2 c κs =
+    let s = c .before .before .before .before .before in
+    omega (arith, s .scan .inv .inside, s .before .before .pre .0)
 
 returns-2 : tie.Need-returns-2 Inv-loop μ-loop Inv-scan μ-scan
 returns-2 c =
+    let l = c .before .before .before .before .before in
+    let s = l .before in
     ⊎-elim
-    (λ w. scan-unended _ _ _ _ _ _ (c .before .before .before .before .scan .inv) (w .1)
-    (c .before .before .before .before .before .before .before .pre .1) (λ q. c .if6 .taken (c .before .innermost .ensures ∙ q)))
-    (λ w. absurd (w .1 (c .before .before .if5 .left))) (ended (c .before .before .before))
+    (λ w. c .refused2 .ensures ∙ scan-unended _ _ _ _ _ _ _ (s .scan .inv) (w .1) (s .before .before .pre .1) (λ q. c .before .if7 .taken (c .before .before .innermost .ensures ∙ q)))
+    (λ w. absurd (w .1 (c .before .before .before .before .if6 .left))) (ended l)
 
 returns-3 : tie.Need-returns-3 Inv-loop μ-loop Inv-scan μ-scan
 returns-3 c =
+    let l = c .before .before .before .before in
+    let s = l .before in
     ⊎-elim
-    (λ w. scan-done _ _ _ _ _ _ (c .before .before .before .before .scan .inv) (w .1)
-    (c .before .before .before .before .before .before .before .pre .1) (sym (c .before .innermost .ensures) ∙ c .if6 .left))
-    (λ w. absurd (w .1 (c .before .before .if5 .left))) (ended (c .before .before .before))
+    (λ w. scan-done _ _ _ _ _ _ _ (s .scan .inv) (w .1) (s .before .before .pre .1) (sym (c .before .innermost .ensures) ∙ c .if7 .left))
+    (λ w. absurd (w .1 (c .before .before .before .if6 .left))) (ended l)
 
 pub scan-records-spec : {M : Type 1} → statement M
 scan-records-spec =
@@ -231,12 +257,11 @@ scan-records-spec =
     μ-loop
     Inv-scan
     μ-scan
-    none-requires
     scan-holds
     mul-read
     read-requires
     shape-fault-requires
-    misplaced-requires
+    is-misplaced-requires
     is-full-requires
     walk-requires
     loop-holds
@@ -252,9 +277,9 @@ scan-records-spec =
     add-k
     scan-less
     scan-again
-    cast-t25
+    refused-requires
     returns
     innermost-requires
-    cast-t27
+    refused-requires-2
     returns-2
     returns-3)
