@@ -1,12 +1,12 @@
 -- The scan's loop: what holds before each record, what a fault ends it with, and what a good record leaves.
 -- Assumes nothing.
 use Prim.Native.Nat.{ℕ, zero, suc, _+_, _-_, _*_, _%_, _≤_, _<_}
-use mathlib.Core.Path.{_≡_, refl, sym, ap, _∙_, subst}
+use mathlib.Core.Path.{_≡_, refl, sym, ap, _∙_}
 use mathlib.Core.Bool.{Bool, true, false, cond, not, _&&_, _||_, or-true}
 use mathlib.Core.List.{List, [], _∷_}
 use native.Mathlib.Numerals.{add-one}
 use native.Mathlib.Omega.{arith}
-use borrow.Author.Tests.{eq-eqb, ne-eqb, le-leb, le-ltb, lt-leb, lt-ltb, eqb-false, eqb-true, ltb-false}
+use borrow.Author.Tests.{ne-eqb, le-leb, le-ltb, lt-leb, lt-ltb, eqb-false, eqb-true, ltb-false}
 use lib.Dec.{eqb, leb, ltb}
 use lib.ListN.{length, getD}
 use Rattle.record.specs.Record.{recordAt}
@@ -32,7 +32,7 @@ use Rattle.script.specs.Refusals.{
   badLength,
   Refusal,
 }
-use Rattle.script.specs.Scan.{Kept, recordsScan, refusedAt, scanned, scriptScan, shapeFault, stackOf}
+use Rattle.script.specs.Scan.{Kept, full, placeFault, recordsScan, refusedAt, scriptScan, shapeFault, stackOf}
 use Rattle.script.specs.declared.Found.{Found}
 
 -- ---- a record's fault, from what it shows by itself and from the open blocks
@@ -74,39 +74,42 @@ repeats-within n (suc m) xs =
     rw e (grows (eqb (getD xs (n + m) 0) 4) (repeatsIn (stackOf (n + m) xs)) (repeatsIn (stackOf n xs)) (repeats-within n m xs))
 
 -- ---- a record's fault by its parts
-pub shape-first : (blocks : List ℕ) (r : Record) (n : ℕ) → n ≡ shapeFault r → (n ≡ 0 → ⊥) → recordFault blocks r ≡ n
-shape-first blocks r n e z = fault-parts blocks r ∙ (rw (← e, ne-eqb n 0 z))
+module _ (blocks : List ℕ) (r : Record) where
+  pub shape-first : (n : ℕ) → n ≡ shapeFault r → (n ≡ 0 → ⊥) → recordFault blocks r ≡ n
+  shape-first n e z = fault-parts blocks r ∙ (rw (← e, ne-eqb n 0 z))
 
-pub place-next : (blocks : List ℕ) (r : Record) → shapeFault r ≡ 0 → misplaced blocks (r .kind) ≡ true → recordFault blocks r ≡ 5
-place-next blocks r e m = fault-parts blocks r ∙ (rw (e, m))
+  pub place-next : (n : ℕ) → shapeFault r ≡ 0 → n ≡ placeFault blocks (r .kind) → (n ≡ 0 → ⊥) → recordFault blocks r ≡ n
+  unfolding placeFault
+  place-next n s e z =
+      fault-parts blocks r
+      ∙ (rw s (pick (misplaced blocks (r .kind)) (full (length blocks) (r .kind)) (eqb (r .kind) 4 && leb 8 (repeatsIn blocks)) e))
+    where
+      pick : (m f t : Bool) → n ≡ cond m 5 (cond f 6 0) → cond m 5 (cond (f || t) 6 0) ≡ n
+      pick true f t q = sym q
+      pick false true t q = sym q
+      pick false false t q = absurd (z q)
 
-pub depth-last : (blocks : List ℕ) (r : Record) → shapeFault r ≡ 0 → misplaced blocks (r .kind) ≡ false
-    → tooDeep blocks (r .kind) ≡ true → recordFault blocks r ≡ 6
-depth-last blocks r e m t = fault-parts blocks r ∙ (rw (e, m, t))
-
-pub good : (blocks : List ℕ) (r : Record) → shapeFault r ≡ 0 → misplaced blocks (r .kind) ≡ false
-    → tooDeep blocks (r .kind) ≡ false → recordFault blocks r ≡ 0
-good blocks r e m t = fault-parts blocks r ∙ (rw (e, m, t))
-
--- ---- the tests of the open blocks
-
--- a record of this kind may stand where so many blocks are open: it is not misplaced, and opens none inside 16
-pub record Placed (blocks : List ℕ) (depth kind : ℕ) : Type 0 where
-  pub fits : misplaced (stackOf depth blocks) kind ≡ false
-  pub room : ((eqb kind 4 || eqb kind 5) && leb 16 depth) ≡ false
+-- a record with no fault of its place is not misplaced, and opens no block inside 16
+pub placed : (blocks : List ℕ) (depth kind : ℕ) → placeFault (stackOf depth blocks) kind ≡ 0
+    → (misplaced (stackOf depth blocks) kind ≡ false) × (full depth kind ≡ false)
+unfolding placeFault
+placed blocks depth kind h =
+    pick (misplaced (stackOf depth blocks) kind) (full depth kind) (rw (length-stack depth blocks) at h)
+  where
+    pick : (m f : Bool) → _≡_ {A = ℕ} (cond m 5 (cond f 6 0)) 0 → (m ≡ false) × (f ≡ false)
+    pick true f q = absurd (omega arith)
+    pick false true q = absurd (omega arith)
+    pick false false q = (refl, refl)
 
 -- a write, a read or a delay may stand anywhere
-pub anywhere : (blocks : List ℕ) (depth kind : ℕ) → kind ≤ 3 → Placed blocks depth kind
-anywhere blocks depth kind h =
-    let four = ne-eqb kind 4 (λ e. omega arith) in
-    let five = ne-eqb kind 5 (λ e. omega arith) in
-    let six = ne-eqb kind 6 (λ e. omega arith) in
-    let seven = ne-eqb kind 7 (λ e. omega arith) in
-    record { fits = simp (six, seven); room = simp (four, five) }
-
-pub full-is-deep : (blocks : List ℕ) (depth kind : ℕ) → ((eqb kind 4 || eqb kind 5) && leb 16 depth) ≡ true
-    → tooDeep (stackOf depth blocks) kind ≡ true
-full-is-deep blocks depth kind h = rw (length-stack depth blocks, h)
+pub anywhere : (blocks : List ℕ) (kind : ℕ) → kind ≤ 3 → placeFault blocks kind ≡ 0
+unfolding placeFault
+anywhere blocks kind h = simp (
+  ne-eqb kind 4 (λ e. omega arith),
+  ne-eqb kind 5 (λ e. omega arith),
+  ne-eqb kind 6 (λ e. omega arith),
+  ne-eqb kind 7 (λ e. omega arith),
+)
 
 -- a repeat is never misplaced, so one inside 8 repeats is refused for its depth
 pub ninth-repeat : (blocks : List ℕ) (depth n : ℕ) (r : Record) → shapeFault r ≡ 0 → r .kind ≡ 4 → n ≤ depth
@@ -114,12 +117,16 @@ pub ninth-repeat : (blocks : List ℕ) (depth n : ℕ) (r : Record) → shapeFau
 ninth-repeat blocks depth n r s e h eight =
     let m : n + (depth - n) ≡ depth = omega arith in
     let l : 8 ≤ repeatsIn (stackOf depth blocks) = rw m at (rw eight at (repeats-within n (depth - n) blocks)) in
-    depth-last (stackOf depth blocks) r s (rw e)
-    (rw (e, le-leb 8 (repeatsIn (stackOf depth blocks)) l) (or-true (leb 16 (length (stackOf depth blocks)))))
+    fault-parts (stackOf depth blocks) r
+    ∙ (rw (s, e, le-leb 8 (repeatsIn (stackOf depth blocks)) l, or-true (leb 16 (length (stackOf depth blocks)))))
 
-pub not-deep : (blocks : List ℕ) (depth kind : ℕ) → ((eqb kind 4 || eqb kind 5) && leb 16 depth) ≡ false
-    → repeatsIn (stackOf (cond (eqb kind 4) depth 0) blocks) < 8 → tooDeep (stackOf depth blocks) kind ≡ false
-not-deep blocks depth kind h r = rw (length-stack depth blocks, h) (pick (eqb kind 4) r)
+-- a record with no fault of its own or of its place has none, if a repeat's walk finds fewer than 8 repeats
+pub good : (blocks : List ℕ) (depth : ℕ) (r : Record) → shapeFault r ≡ 0 → placeFault (stackOf depth blocks) (r .kind) ≡ 0
+    → repeatsIn (stackOf (cond (eqb (r .kind) 4) depth 0) blocks) < 8 → recordFault (stackOf depth blocks) r ≡ 0
+good blocks depth r s p few =
+    let q = placed blocks depth (r .kind) p in
+    fault-parts (stackOf depth blocks) r
+    ∙ (rw (s, q .0, length-stack depth blocks, q .1, pick (eqb (r .kind) 4) few))
   where
     pick : (b : Bool) → repeatsIn (stackOf (cond b depth 0) blocks) < 8 → (b && leb 8 (repeatsIn (stackOf depth blocks))) ≡ false
     pick true l = lt-leb 8 (repeatsIn (stackOf depth blocks)) l

@@ -1,16 +1,14 @@
--- The open blocks as an array and a depth: a store at the depth is a push, one below it changes the innermost block, and
--- the walk over the array counts the repeats. Assumes nothing.
+-- The open blocks as an array and a depth: a store at the depth is a push, and one below it changes the innermost block.
+-- Assumes nothing.
 use Prim.Native.Nat.{ℕ, zero, suc, _+_, _-_, _≤_, _<_}
 use mathlib.Core.Path.{_≡_, refl, sym, ap, _∙_}
-use mathlib.Core.Bool.{Bool, true, false, cond}
-use mathlib.Core.List.{List, [], _∷_}
-use native.Mathlib.Decide.{decLe}
+use mathlib.Core.Bool.{false}
+use mathlib.Core.List.{List, _∷_}
 use native.Mathlib.Numerals.{add-one}
 use native.Mathlib.Omega.{arith}
-use lib.Dec.{eqb}
 use lib.ListN.{length, getD, set, length-set}
 use lib.Seq.{getD-set-same, getD-set-other}
-use Rattle.script.specs.Refusals.{innermost, misplaced, outer, repeatsIn}
+use Rattle.script.specs.Refusals.{misplaced, outer}
 use Rattle.script.specs.Scan.{Kept, stackOf}
 
 -- a store at or behind the depth does not show

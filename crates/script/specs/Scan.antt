@@ -1,13 +1,13 @@
 -- What a scan of a script finds, and the open blocks as the scan keeps them.
 use Prim.Native.Nat.{ℕ, zero, suc, _≤_}
 use mathlib.Core.Path.{_≡_}
-use mathlib.Core.Bool.{cond}
+use mathlib.Core.Bool.{Bool, cond, _&&_, _||_}
 use mathlib.Core.List.{List, [], _∷_}
-use lib.Dec.{eqb}
+use lib.Dec.{eqb, leb}
 use lib.ListN.{getD, length}
 use Rattle.record.specs.declared.Record.{Record}
 use Rattle.script.specs.Records.{recordsOf}
-use Rattle.script.specs.Refusals.{badFields, badKind, firstFault, scriptRefusal, wordsIn, wrongMark, Refusal}
+use Rattle.script.specs.Refusals.{badFields, badKind, firstFault, misplaced, scriptRefusal, wordsIn, wrongMark, Refusal}
 use Rattle.script.specs.declared.Found.{Found}
 
 -- what a record shows by itself: 2, 3, 4, or 0
@@ -23,6 +23,14 @@ stackOf (suc n) xs = getD xs n 0 ∷ stackOf n xs
 pub record Kept (blocks : List ℕ) (depth : ℕ) : Type 0 where
   pub deep : depth ≤ 16
   pub sized : length blocks ≡ 16
+
+-- a block opened inside 16
+abbrev pub full : (depth kind : ℕ) → Bool
+full depth kind = (eqb kind 4 || eqb kind 5) && leb 16 depth
+
+-- what a record shows by its place, but for the repeats around it: 5, 6, or 0
+unfoldable pub placeFault : List ℕ → ℕ → ℕ
+placeFault blocks kind = cond (misplaced blocks kind) 5 (cond (full (length blocks) kind) 6 0)
 
 -- a refusal has no words
 abbrev pub scanned : Refusal → ℕ → Found

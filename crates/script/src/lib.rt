@@ -1,14 +1,22 @@
 // Scripts: document 01, "Scripts and images". The scan gives refusals 1 to 8, or how many words the script has.
 use record::Record;
 ghost use mathlib.Core.Path.{_≡_};
-ghost use mathlib.Core.Bool.{true, false, _&&_, _||_, cond};
-ghost use mathlib.Core.List.{[], _∷_};
-ghost use Prim.Native.Nat.{_+_, _*_, _≤_, _<_, _/_};
-ghost use lib.Dec.{eqb, leb};
+ghost use mathlib.Core.Bool.{cond};
+ghost use Prim.Native.Nat.{_≤_, _/_};
+ghost use lib.Dec.{eqb};
 ghost use lib.ListN.{length};
 ghost use Rattle.script.specs.Fields.{valueFields, readFields, countFields, noFields};
 ghost use Rattle.script.specs.Refusals.{badLength, goodFields, innermost, misplaced, openAfter, givesWord};
-ghost use Rattle.script.specs.Scan.{Kept, recordsScan, refusedAt, scriptScan, shapeFault, stackOf};
+ghost use Rattle.script.specs.Scan.{
+  Kept,
+  full,
+  placeFault,
+  recordsScan,
+  refusedAt,
+  scriptScan,
+  shapeFault,
+  stackOf,
+};
 
 // What a scan finds: a refusal with its place, or number 0 and how many words the script gives.
 pub struct Found {
@@ -159,7 +167,7 @@ fn is_misplaced(blocks: &[u8; 16], depth: usize, kind: u32) -> bool
 
 // A block opened inside 16.
 fn is_full(depth: usize, kind: u32) -> bool
-    ensures { λ r. ⌜ r ≡ ((eqb kind 4 || eqb kind 5) && leb 16 depth) ⌝ }
+    ensures { λ r. ⌜ r ≡ full depth kind ⌝ }
 {
     if kind == REPEAT {
         return MOST_BLOCKS <= depth;
@@ -168,6 +176,20 @@ fn is_full(depth: usize, kind: u32) -> bool
         return MOST_BLOCKS <= depth;
     }
     false
+}
+
+// What a record shows by its place, but for the repeats around it: 5, 6, or 0.
+fn place_fault(blocks: &[u8; 16], depth: usize, kind: u32) -> u32
+    requires { ⌜ depth ≤ 16 ⌝ }
+    ensures { λ r. ⌜ r ≡ placeFault (stackOf depth (now (blocks .entry))) kind ⌝ }
+{
+    if is_misplaced(blocks, depth, kind) {
+        return 5;
+    }
+    if is_full(depth, kind) {
+        return 6;
+    }
+    0
 }
 
 // How many open blocks a record of this kind has to look at: a repeat at all of them.
@@ -180,6 +202,7 @@ fn walk(depth: usize, kind: u32) -> usize
     0
 }
 
+// What a block adds to the repeats that a walk counts.
 fn is_repeat(block: u8) -> u32
     ensures { λ r. ⌜ r ≡ cond (eqb block 4) 1 0 ⌝ }
 {
@@ -203,8 +226,7 @@ fn gives(blocks: &[u8; 16], depth: usize, kind: u32) -> u32
 // Opens, changes or closes a block as a record that is well placed asks; the depth behind it.
 fn after(blocks: &mut [u8; 16], depth: usize, kind: u32) -> usize
     requires { ⌜ Kept (now blocks) depth ⌝ }
-    requires { ⌜ ((eqb kind 4 || eqb kind 5) && leb 16 depth) ≡ false ⌝ }
-    requires { ⌜ misplaced (stackOf depth (now blocks)) kind ≡ false ⌝ }
+    requires { ⌜ placeFault (stackOf depth (now blocks)) kind ≡ 0 ⌝ }
     ensures { λ r. ⌜ Kept (now (blocks .exit)) r × (stackOf r (now (blocks .exit)) ≡ openAfter (stackOf depth (now (blocks .entry))) kind) ⌝ }
 {
     if kind == REPEAT {
@@ -227,6 +249,7 @@ fn after(blocks: &mut [u8; 16], depth: usize, kind: u32) -> usize
 
 // ---- the scan
 
+// A refusal has no words.
 fn refused(number: u32, place: usize) -> Found
     requires { ⌜ place ≤ 1024 ⌝ }
     ensures { λ r. ⌜ r ≡ refusedAt number place ⌝ }
@@ -251,19 +274,14 @@ fn scan_records(script: &[u8], count: usize) -> Found
     'scan: while k < count {
         let r = record::read(script, 12 * k);
         let kind = r.kind;
-        let shape = shape_fault(r);
-        if shape != 0 {
-            number = shape;
+        number = shape_fault(r);
+        if number != 0 {
             break 'scan;
         }
-        // A write, a read or a delay may stand anywhere and only gives a word: most records are such.
+        // A write, a read or a delay may stand anywhere, and most records are such: their place is not looked at.
         if DELAY < kind {
-            if is_misplaced(&blocks, depth, kind) {
-                number = 5;
-                break 'scan;
-            }
-            if is_full(depth, kind) {
-                number = 6;
+            number = place_fault(&blocks, depth, kind);
+            if number != 0 {
                 break 'scan;
             }
         }

@@ -1,14 +1,25 @@
 -- `script::after` meets its contract. Assumes nothing.
+use mathlib.Core.Path.{_≡_}
+use mathlib.Core.Bool.{false}
 use native.Mathlib.Omega.{arith}
 use lib.ListN.{length-set}
 use borrow.Author.Needs.{needs}
 use borrow.Author.Tests.{leb-false, ne-eqb}
+use Rattle.script.specs.Refusals.{misplaced}
+use Rattle.script.specs.Scan.{full, stackOf}
+use Rattle.script.proofs.Scanning.{placed}
 use Rattle.script.proofs.Stack.{else-inside, end-inside, opens, stack-else, stack-pop}
 use Rattle.script.proofs.after.Statement.{statement}
 use Rattle.script.proofs.after.Tie as tie
 
+misplaced-not : (c : tie.Start) → misplaced (stackOf (c .args .depth) (c .args .blocks .now)) (c .args .kind) ≡ false
+misplaced-not c = placed (c .args .blocks .now) (c .args .depth) (c .args .kind) (c .pre .1) .0
+
+full-not : (c : tie.Start) → full (c .args .depth) (c .args .kind) ≡ false
+full-not c = placed (c .args .blocks .now) (c .args .depth) (c .args .kind) (c .pre .1) .1
+
 element-write-blocks : tie.Need-element-write-blocks
-element-write-blocks c = leb-false 16 (c .before .args .depth) (rw (c .if1 .taken) at (c .before .pre .1 .0))
+element-write-blocks c = leb-false 16 (c .before .args .depth) (rw (c .if1 .taken) at (full-not (c .before)))
 
 add-result : tie.Need-add-result
 add-result c = search needs
@@ -19,7 +30,7 @@ returns c =
     rw (c .if1 .taken) (opens (s .args .blocks .now) (s .args .depth) 4 (s .pre .0) (element-write-blocks c))
 
 element-write-blocks-2 : tie.Need-element-write-blocks-2
-element-write-blocks-2 c = leb-false 16 (c .before .before .args .depth) (rw (c .if2 .taken) at (c .before .before .pre .1 .0))
+element-write-blocks-2 c = leb-false 16 (c .before .before .args .depth) (rw (c .if2 .taken) at (full-not (c .before .before)))
 
 add-result-2 : tie.Need-add-result-2
 add-result-2 c = search needs
@@ -30,7 +41,7 @@ returns-2 c =
     rw (c .if2 .taken) (opens (s .args .blocks .now) (s .args .depth) 5 (s .pre .0) (element-write-blocks-2 c))
 
 sub-blocks : tie.Need-sub-blocks
-sub-blocks c = else-inside _ _ (rw (c .if3 .taken) at (c .before .before .before .pre .1 .1))
+sub-blocks c = else-inside _ _ (rw (c .if3 .taken) at (misplaced-not (c .before .before .before)))
 
 element-write-blocks-3 : tie.Need-element-write-blocks-3
 element-write-blocks-3 c = search needs
@@ -44,7 +55,7 @@ returns-3 c =
     )
 
 sub-result : tie.Need-sub-result
-sub-result c = end-inside _ _ (rw (c .if4 .taken) at (c .before .before .before .before .pre .1 .1))
+sub-result c = end-inside _ _ (rw (c .if4 .taken) at (misplaced-not (c .before .before .before .before)))
 
 returns-4 : tie.Need-returns-4
 returns-4 c =

@@ -11,16 +11,12 @@ use lib.ListN.{getD}
 use Rattle.script.proofs.Scanning.{
   anywhere,
   at-most-one,
-  depth-last,
   faulty,
-  full-is-deep,
   further,
   Going,
   good,
   ninth-repeat,
-  not-deep,
   place-next,
-  Placed,
   repeats-more,
   scan-done,
   scan-faulted,
@@ -32,16 +28,16 @@ use Rattle.script.proofs.Scanning.{
 }
 use Rattle.script.specs.Records.{recordsFrom}
 use Rattle.script.specs.Refusals.{firstFault, givesWord, recordFault, refusal, repeatsIn}
-use Rattle.script.specs.Scan.{recordsScan, stackOf}
+use Rattle.script.specs.Scan.{placeFault, stackOf}
 use Rattle.script.proofs.scan_records.Statement.{statement}
 use Rattle.script.proofs.scan_records.Tie as tie
 
 abbrev Inv-loop : tie.InvT-loop
-Inv-loop script count blocks depth words number₀ k kind shape walk repeats₀ b₀ number repeats b =
-    (b ≤ walk) × (repeats ≡ repeatsIn (stackOf b blocks)) × (repeats < 8) × (number ≡ number₀)
+Inv-loop script count blocks depth words number₀ k kind walk repeats₀ b₀ number repeats b =
+    (b ≤ walk) × (repeats ≡ repeatsIn (stackOf b blocks)) × (repeats < 8) × (number ≡ 0)
 
 abbrev μ-loop : tie.MeasureT-loop
-μ-loop script count blocks depth words number₀ k kind shape walk repeats₀ b₀ number repeats b = walk - b
+μ-loop script count blocks depth words number₀ k kind walk repeats₀ b₀ number repeats b = walk - b
 
 abbrev Inv-scan : tie.InvT-scan
 Inv-scan script count blocks₀ depth₀ words₀ number₀ k₀ blocks depth words number k = Going script count blocks depth words number k
@@ -61,25 +57,22 @@ read-requires c κs = omega arith
 shape-fault-requires : tie.Need-shape-fault-requires Inv-loop μ-loop Inv-scan μ-scan
 shape-fault-requires c κs = search needs
 
-is-misplaced-requires : tie.Need-is-misplaced-requires Inv-loop μ-loop Inv-scan μ-scan
-is-misplaced-requires c κs = c .before .before .before .before .before .before .scan .inv .kept .deep
+place-fault-requires : tie.Need-place-fault-requires Inv-loop μ-loop Inv-scan μ-scan
+place-fault-requires c κs = c .before .before .before .before .before .before .scan .inv .kept .deep
 
-is-full-requires : tie.Need-is-full-requires Inv-loop μ-loop Inv-scan μ-scan
-is-full-requires c κs = search needs
-
--- where the record may stand: a write, a read or a delay anywhere, another where the two tests let it through
-placed : (c : tie.Joined2 Inv-loop μ-loop Inv-scan μ-scan)
-    → Placed (c .before .before .before .before .before .scan .blocks) (c .before .before .before .before .before .scan .depth) (c .before .before .before .read .result .kind)
-placed c =
-    ⊎-elim
-    (λ w. record { fits = sym (w .2 .ensures) ∙ w .3 .left; room = sym (w .4 .ensures) ∙ w .5 .left })
-    (λ w. anywhere _ _ _ (w .left)) (c .if2 .came)
+-- a record that goes on has no fault of its place: a write, a read or a delay never, another by the test
+settled : (c : tie.Joined2 Inv-loop μ-loop Inv-scan μ-scan) →
+    (placeFault (stackOf (c .before .before .before .before .before .scan .depth) (c .before .before .before .before .before .scan .blocks)) (c .before .before .before .read .result .kind) ≡ 0)
+    × (c .if2 .number ≡ 0)
+settled c =
+    ⊎-elim (λ w. (sym (w .2 .ensures) ∙ w .3 .left, w .4 ∙ w .3 .left))
+    (λ w. (anywhere _ _ (w .0 .left), w .1 ∙ c .before .if1 .left)) (c .if2 .came)
 
 walk-requires : tie.Need-walk-requires Inv-loop μ-loop Inv-scan μ-scan
 walk-requires c κs = search needs
 
 loop-holds : tie.Need-loop-holds Inv-loop μ-loop Inv-scan μ-scan
-loop-holds c = (omega arith, refl, omega arith, refl)
+loop-holds c = (omega arith, refl, omega arith, settled (c .before) .1)
 
 array-read-is-repeat : tie.Need-array-read-is-repeat Inv-loop μ-loop Inv-scan μ-scan
 array-read-is-repeat c =
@@ -114,7 +107,7 @@ loop-again c =
     let one = at-most-one (eqb (getD (s .blocks) (l .b) 0) 4) in (
       omega arith,
       (rw (c .before .is-repeat .ensures, i .1) (sym (repeats-more (l .b) (s .blocks)))),
-      omega (arith, c .before .is-repeat .ensures, one, i .2, c .if5 .left),
+      omega (arith, c .before .is-repeat .ensures, one, i .2, c .if4 .left),
       i .3,
     )
 
@@ -128,11 +121,10 @@ sound c =
     let s = j .before .before .before .before .before .scan in
     let f = j .before .before in
     let r = f .before .read .result in
-    let p = placed j in
     let e : l .b ≡ w .result = omega arith in
     let few : repeatsIn (stackOf (cond (eqb (r .kind) 4) (s .depth) 0) (s .blocks)) < 8 =
     rw (w .ensures) at (rw e at (rw (l .inv .1) at (l .inv .2))) in
-    good _ r (sym (f .shape-fault .ensures) ∙ j .before .if1 .left) (p .fits) (not-deep (s .blocks) (s .depth) (r .kind) (p .room) few)
+    good (s .blocks) (s .depth) r (sym (f .shape-fault .ensures) ∙ j .before .if1 .left) (settled j .0) few
 
 gives-requires : tie.Need-gives-requires Inv-loop μ-loop Inv-scan μ-scan
 gives-requires c κs = c .before .before .before .before .before .before .before .before .before .scan .inv .kept .deep
@@ -151,8 +143,7 @@ add-words c =
 after-requires : tie.Need-after-requires Inv-loop μ-loop Inv-scan μ-scan
 after-requires c κs =
     let j = c .before .before .before .before .before .before in
-    let p = placed j in
-    (j .before .before .before .before .before .scan .inv .kept, (p .room, p .fits))
+    (j .before .before .before .before .before .scan .inv .kept, settled j .0)
 
 add-k : tie.Need-add-k Inv-loop μ-loop Inv-scan μ-scan
 add-k c = omega arith
@@ -169,7 +160,7 @@ scan-again c =
     rw (c .before .before .gives .ensures)
     (further _ _ (s .blocks) (s .depth) _ _ _ (s .inv) (r .result) (c .after .last .0) (c .after .result) _
     (j .before .before .before .before .scan-test .taken) (r .ensures) (c .after .ensures .0)
-    (a .before .loop .inv .3 ∙ s .inv .clear) (sound a) (c .after .ensures .1))
+    (a .before .loop .inv .3) (sound a) (c .after .ensures .1))
 
 -- how the scan ended: behind the last record, or at a fault
 abbrev Ended : tie.Left-scan Inv-loop μ-loop Inv-scan μ-scan → Type 0
@@ -193,18 +184,9 @@ ended c =
     (⊎-elim
     (λ w.
     let r = w .1 .result in
-    let e = sym (w .2 .ensures) ∙ w .3 .left in
-    let m = sym (w .6 .ensures) ∙ w .7 .taken in
-    let f = faulty _ _ _ _ _ _ _ g r 5 (w .0 .taken) (w .1 .ensures) (place-next _ r e m) (λ q. omega arith) in
-    inr (rw (w .8) (f, λ q. omega arith)))
-    (⊎-elim
-    (λ w.
-    let r = w .1 .result in
-    let e = sym (w .2 .ensures) ∙ w .3 .left in
-    let m = sym (w .6 .ensures) ∙ w .7 .left in
-    let t = full-is-deep (s .blocks) (s .depth) (r .kind) (sym (w .8 .ensures) ∙ w .9 .taken) in
-    let f = faulty _ _ _ _ _ _ _ g r 6 (w .0 .taken) (w .1 .ensures) (depth-last _ r e m t) (λ q. omega arith) in
-    inr (rw (w .10) (f, λ q. omega arith)))
+    let n = w .6 .result in
+    let f = faulty _ _ _ _ _ _ _ g r n (w .0 .taken) (w .1 .ensures) (place-next _ r n (sym (w .2 .ensures) ∙ w .3 .left) (w .6 .ensures) (w .7 .taken)) (w .7 .taken) in
+    inr (rw (w .8) (f, w .7 .taken)))
     (λ w.
     let r = w .1 .result in
     let e = sym (w .2 .ensures) ∙ w .3 .left in
@@ -214,7 +196,7 @@ ended c =
     repeats-more b (s .blocks) ∙ (rw (← (w .6 .inv .1), ← (w .8 .ensures)) (w .9 .taken)) in
     let l : b + 1 ≤ s .depth = omega (arith, w .7 .taken, w .5 .ensures, walk-within (eqb (r .kind) 4) (s .depth)) in
     let f = faulty _ _ _ _ _ _ _ g r 6 (w .0 .taken) (w .1 .ensures) (ninth-repeat (s .blocks) (s .depth) (b + 1) r e four l eight) (λ q. omega arith) in
-    inr (rw (w .10) (f, λ q. omega arith))))))
+    inr (rw (w .10) (f, λ q. omega arith)))))
     (c .scan-test .came)
 
 refused-requires : tie.Need-refused-requires Inv-loop μ-loop Inv-scan μ-scan
@@ -222,7 +204,7 @@ refused-requires c κs = omega (arith, c .before .before .scan .inv .inside, c .
 
 returns : tie.Need-returns Inv-loop μ-loop Inv-scan μ-scan
 returns c =
-    ⊎-elim (λ w. absurd (c .before .if6 .taken (w .0)))
+    ⊎-elim (λ w. absurd (c .before .if5 .taken (w .0)))
     (λ w. c .refused .ensures ∙ scan-faulted _ _ _ _ (c .before .before .before .before .before .pre .1) (w .0) (w .1)) (ended (c .before .before))
 
 innermost-requires : tie.Need-innermost-requires Inv-loop μ-loop Inv-scan μ-scan
@@ -238,16 +220,16 @@ returns-2 c =
     let l = c .before .before .before .before .before in
     let s = l .before in
     ⊎-elim
-    (λ w. c .refused2 .ensures ∙ scan-unended _ _ _ _ _ _ _ (s .scan .inv) (w .1) (s .before .before .pre .1) (λ q. c .before .if7 .taken (c .before .before .innermost .ensures ∙ q)))
-    (λ w. absurd (w .1 (c .before .before .before .before .if6 .left))) (ended l)
+    (λ w. c .refused2 .ensures ∙ scan-unended _ _ _ _ _ _ _ (s .scan .inv) (w .1) (s .before .before .pre .1) (λ q. c .before .if6 .taken (c .before .before .innermost .ensures ∙ q)))
+    (λ w. absurd (w .1 (c .before .before .before .before .if5 .left))) (ended l)
 
 returns-3 : tie.Need-returns-3 Inv-loop μ-loop Inv-scan μ-scan
 returns-3 c =
     let l = c .before .before .before .before in
     let s = l .before in
     ⊎-elim
-    (λ w. scan-done _ _ _ _ _ _ _ (s .scan .inv) (w .1) (s .before .before .pre .1) (sym (c .before .innermost .ensures) ∙ c .if7 .left))
-    (λ w. absurd (w .1 (c .before .before .before .if6 .left))) (ended l)
+    (λ w. scan-done _ _ _ _ _ _ _ (s .scan .inv) (w .1) (s .before .before .pre .1) (sym (c .before .innermost .ensures) ∙ c .if6 .left))
+    (λ w. absurd (w .1 (c .before .before .before .if5 .left))) (ended l)
 
 pub scan-records-spec : {M : Type 1} → statement M
 scan-records-spec =
@@ -261,8 +243,7 @@ scan-records-spec =
     mul-read
     read-requires
     shape-fault-requires
-    is-misplaced-requires
-    is-full-requires
+    place-fault-requires
     walk-requires
     loop-holds
     array-read-is-repeat
