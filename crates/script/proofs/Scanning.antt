@@ -1,4 +1,6 @@
--- The scan's loop: what holds before each record, what a fault ends it with, and what a good record leaves.
+-- The scan's loop. A record's fault is that of its shape, of its place, or of the repeats around it, in this order. Before each
+-- record the fault and the words of the whole script are those of the records left (`Going`): a fault ends the scan with its
+-- number and place, a good record leaves the same for the next, and behind the last one only a block still open is a fault.
 -- Assumes nothing.
 use Prim.Native.Nat.{ℕ, zero, suc, _+_, _-_, _*_, _%_, _≤_, _<_}
 use mathlib.Core.Path.{_≡_, refl, sym, ap, _∙_}
@@ -183,7 +185,7 @@ pub at-most-one : (b : Bool) → cond b 1 0 ≤ 1
 at-most-one true = omega arith
 at-most-one false = omega arith
 
--- ---- what the scan answers
+-- ---- what the scan answers, and how a record leads to the next
 pub scan-faulted : (bytes : List ℕ) (count number k : ℕ) → count ≡ recordCount bytes
     → firstFault [] 0 (recordsFrom count 0 bytes) ≡ refusal number k → (number ≡ 0 → ⊥) → refusedAt number k ≡ recordsScan bytes
 unfolding recordsScan recordsOf
