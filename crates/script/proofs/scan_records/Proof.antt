@@ -1,8 +1,8 @@
 -- `script::scan_records` meets its contract. Assumes nothing.
-use Prim.Native.Nat.{_+_, _-_, _≤_, _<_}
+use Prim.Native.Nat.{ℕ, _+_, _-_, _≤_, _<_}
 use mathlib.Core.Path.{_≡_, refl, sym, _∙_}
 use mathlib.Core.Bool.{cond}
-use mathlib.Core.List.{[]}
+use mathlib.Core.List.{List, []}
 use mathlib.Core.Logic.{_⊎_, inl, inr, ⊎-elim}
 use native.Mathlib.Omega.{arith}
 use borrow.Author.Needs.{needs}
@@ -60,10 +60,13 @@ shape-fault-requires c κs = search needs
 place-fault-requires : tie.Need-place-fault-requires Inv-loop μ-loop Inv-scan μ-scan
 place-fault-requires c κs = c .before .before .before .before .before .before .scan .inv .kept .deep
 
+-- the blocks that are open where a record has been read
+abbrev openAt : tie.After-read Inv-loop μ-loop Inv-scan μ-scan → List ℕ
+openAt c = stackOf (c .before .before .scan .depth) (c .before .before .scan .blocks)
+
 -- a record that goes on has no fault of its place: a write, a read or a delay never, another by the test
-settled : (c : tie.Joined2 Inv-loop μ-loop Inv-scan μ-scan) →
-    (placeFault (stackOf (c .before .before .before .before .before .scan .depth) (c .before .before .before .before .before .scan .blocks)) (c .before .before .before .read .result .kind) ≡ 0)
-    × (c .if2 .number ≡ 0)
+settled : (c : tie.Joined2 Inv-loop μ-loop Inv-scan μ-scan)
+    → (placeFault (openAt (c .before .before .before)) (c .before .before .before .read .result .kind) ≡ 0) × (c .if2 .number ≡ 0)
 settled c =
     ⊎-elim (λ w. (sym (w .2 .ensures) ∙ w .3 .left, w .4 ∙ w .3 .left))
     (λ w. (anywhere _ _ (w .0 .left), w .1 ∙ c .before .if1 .left)) (c .if2 .came)
@@ -113,7 +116,7 @@ loop-again c =
 
 -- a record that the walk lets through has no fault
 sound : (c : tie.After-loop Inv-loop μ-loop Inv-scan μ-scan)
-    → recordFault (stackOf (c .before .before .before .before .before .before .before .before .scan .depth) (c .before .before .before .before .before .before .before .before .scan .blocks)) (c .before .before .before .before .before .before .read .result) ≡ 0
+    → recordFault (openAt (c .before .before .before .before .before .before)) (c .before .before .before .before .before .before .read .result) ≡ 0
 sound c =
     let l = c .before .loop in
     let w = c .before .before .walk in
@@ -131,11 +134,12 @@ gives-requires c κs = c .before .before .before .before .before .before .before
 
 add-words : tie.Need-add-words Inv-loop μ-loop Inv-scan μ-scan
 add-words c =
-    let s = c .before .before .before .before .before .before .before .before .before .before in
+    let r = c .before .before .before .before .before .before .before .before in
+    let s = r .before .before in
     omega (
       arith,
       c .gives .ensures,
-      at-most-one (givesWord (stackOf (s .scan .depth) (s .scan .blocks)) (c .before .before .before .before .before .before .before .before .read .result .kind)),
+      at-most-one (givesWord (openAt r) (r .read .result .kind)),
       s .scan .inv .few,
       s .before .before .pre .0,
     )
