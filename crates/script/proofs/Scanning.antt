@@ -1,12 +1,14 @@
--- The scan's loop: what holds before each record, what a fault ends it with, and what a good record leaves.
+-- The scan's loop. A record's fault is that of its shape, of its place, or of the repeats around it, in this order. Before each
+-- record the fault and the words of the whole script are those of the records left (`Going`): a fault ends the scan with its
+-- number and place, a good record leaves the same for the next, and behind the last one only a block still open is a fault.
 -- Assumes nothing.
 use Prim.Native.Nat.{ℕ, zero, suc, _+_, _-_, _*_, _%_, _≤_, _<_}
-use mathlib.Core.Path.{_≡_, refl, sym, ap, _∙_, subst}
+use mathlib.Core.Path.{_≡_, refl, sym, ap, _∙_}
 use mathlib.Core.Bool.{Bool, true, false, cond, not, _&&_, _||_, or-true}
 use mathlib.Core.List.{List, [], _∷_}
 use native.Mathlib.Numerals.{add-one}
 use native.Mathlib.Omega.{arith}
-use borrow.Author.Tests.{eq-eqb, ne-eqb, le-leb, le-ltb, lt-leb, lt-ltb, eqb-false, eqb-true, ltb-false}
+use borrow.Author.Tests.{ne-eqb, le-leb, le-ltb, lt-leb, lt-ltb, eqb-false, eqb-true, ltb-false}
 use lib.Dec.{eqb, leb, ltb}
 use lib.ListN.{length, getD}
 use Rattle.record.specs.Record.{recordAt}
@@ -32,8 +34,7 @@ use Rattle.script.specs.Refusals.{
   badLength,
   Refusal,
 }
-use Rattle.script.specs.Scan.{blocksOf, Kept, recordsScan, scanned, scriptScan, shapeFault, stackOf}
-use Rattle.script.specs.declared.Open.{Open}
+use Rattle.script.specs.Scan.{Kept, full, placeFault, recordsScan, refusedAt, scriptScan, shapeFault, stackOf}
 use Rattle.script.specs.declared.Found.{Found}
 
 -- ---- a record's fault, from what it shows by itself and from the open blocks
@@ -74,108 +75,63 @@ repeats-within n (suc m) xs =
     let e : n + suc m ≡ suc (n + m) = omega arith in
     rw e (grows (eqb (getD xs (n + m) 0) 4) (repeatsIn (stackOf (n + m) xs)) (repeatsIn (stackOf n xs)) (repeats-within n m xs))
 
--- ---- what holds before record k of so many
-pub record Going (bytes : List ℕ) (count : ℕ) (o : Open) (words number k : ℕ) : Type 0 where
-  pub kept : Kept o
-  pub inside : k ≤ count
-  pub clear : number ≡ 0
-  pub fault :
-      firstFault [] 0 (recordsFrom count 0 bytes) ≡ firstFault (blocksOf o) k (recordsFrom (count - k) k bytes)
-  pub given :
-      words + wordCount (blocksOf o) (recordsFrom (count - k) k bytes) ≡ suc (wordCount [] (recordsFrom count 0 bytes))
-  pub few : words ≤ suc k
-
-rest : (bytes : List ℕ) (count k : ℕ) → k < count
-    → recordsFrom (count - k) k bytes ≡ recordAt bytes (12 * k) ∷ recordsFrom (count - suc k) (suc k) bytes
-rest bytes count k h =
-    let e : count - k ≡ suc (count - suc k) = omega arith in
-    rw e
-
--- before the first record
-pub starts : (bytes : List ℕ) (count : ℕ) (o : Open) → Kept o → o .depth ≡ 0 → Going bytes count o 1 0 0
-starts bytes count o kp e =
-    let z : count - 0 ≡ count = omega arith in
-    record {
-      kept = kp;
-      inside = omega arith;
-      clear = refl;
-      fault = rw (e, z);
-      given = rw (e, z) (omega arith);
-      few = omega arith;
-    }
-
--- a fault ends the scan with its number and place
-pub faulty : (bytes : List ℕ) (count : ℕ) (o : Open) (words number k n : ℕ) (r : Record) → Going bytes count o words number k
-    → k < count → r ≡ recordAt bytes (12 * k) → recordFault (blocksOf o) r ≡ n → (n ≡ 0 → ⊥)
-    → firstFault [] 0 (recordsFrom count 0 bytes) ≡ refusal n k
-faulty bytes count o words number k n r g h q e z =
-    g .fault ∙ ap (firstFault (blocksOf o) k) (rest bytes count k h) ∙ (rw (rw q at e, ne-eqb n 0 z))
-
-counted : (b : Bool) (words w t : ℕ) → words + cond b (suc w) w ≡ t → (words + cond b 1 0) + w ≡ t
-counted true words w t h = omega arith
-counted false words w t h = omega arith
-
-pub at-most-one : (b : Bool) → cond b 1 0 ≤ 1
-at-most-one true = omega arith
-at-most-one false = omega arith
-
--- a good record
-pub further : (bytes : List ℕ) (count : ℕ) (o p : Open) (words number next k : ℕ) (r : Record)
-    → Going bytes count o words number k → k < count → r ≡ recordAt bytes (12 * k) → Kept p → next ≡ 0
-    → recordFault (blocksOf o) r ≡ 0 → blocksOf p ≡ openAfter (blocksOf o) (r .kind)
-    → Going bytes count p (words + cond (givesWord (blocksOf o) (r .kind)) 1 0) next (k + 1)
-further bytes count o p words number next k r g h q kp c z e = record {
-  kept = kp;
-  inside = omega arith;
-  clear = c;
-  fault =
-      g .fault
-      ∙ ap (firstFault (blocksOf o) k) (rest bytes count k h ∙ ap (λ (x : Record). x ∷ recordsFrom (count - suc k) (suc k) bytes) (sym q))
-      ∙ (rw (z, add-one k, e));
-  given =
-      rw (add-one k, e)
-      (counted (givesWord (blocksOf o) (r .kind)) words
-      (wordCount (openAfter (blocksOf o) (r .kind)) (recordsFrom (count - suc k) (suc k) bytes)) _
-      (ap (λ (l : List Record). words + wordCount (blocksOf o) l)
-      (ap (λ (x : Record). x ∷ recordsFrom (count - suc k) (suc k) bytes) q ∙ sym (rest bytes count k h))
-      ∙ g .given));
-  few = omega (arith, g .few, at-most-one (givesWord (blocksOf o) (r .kind)));
-}
-
 -- ---- a record's fault by its parts
-pub shape-first : (o : Open) (r : Record) (n : ℕ) → n ≡ shapeFault r → (n ≡ 0 → ⊥) → recordFault (blocksOf o) r ≡ n
-shape-first o r n e z = fault-parts (blocksOf o) r ∙ (rw (← e, ne-eqb n 0 z))
+module _ (blocks : List ℕ) (r : Record) where
+  pub shape-first : (n : ℕ) → n ≡ shapeFault r → (n ≡ 0 → ⊥) → recordFault blocks r ≡ n
+  shape-first n e z = fault-parts blocks r ∙ (rw (← e, ne-eqb n 0 z))
 
-pub place-next : (o : Open) (r : Record) → shapeFault r ≡ 0 → misplaced (blocksOf o) (r .kind) ≡ true
-    → recordFault (blocksOf o) r ≡ 5
-place-next o r e m = fault-parts (blocksOf o) r ∙ (rw (e, m))
+  pub place-next : (n : ℕ) → shapeFault r ≡ 0 → n ≡ placeFault blocks (r .kind) → (n ≡ 0 → ⊥) → recordFault blocks r ≡ n
+  unfolding placeFault
+  place-next n s e z =
+      fault-parts blocks r
+      ∙ (rw s (pick (misplaced blocks (r .kind)) (full (length blocks) (r .kind)) (eqb (r .kind) 4 && leb 8 (repeatsIn blocks)) e))
+    where
+      pick : (m f t : Bool) → n ≡ cond m 5 (cond f 6 0) → cond m 5 (cond (f || t) 6 0) ≡ n
+      pick true f t q = sym q
+      pick false true t q = sym q
+      pick false false t q = absurd (z q)
 
-pub depth-last : (o : Open) (r : Record) → shapeFault r ≡ 0 → misplaced (blocksOf o) (r .kind) ≡ false
-    → tooDeep (blocksOf o) (r .kind) ≡ true → recordFault (blocksOf o) r ≡ 6
-depth-last o r e m t = fault-parts (blocksOf o) r ∙ (rw (e, m, t))
-
-pub good : (o : Open) (r : Record) → shapeFault r ≡ 0 → misplaced (blocksOf o) (r .kind) ≡ false
-    → tooDeep (blocksOf o) (r .kind) ≡ false → recordFault (blocksOf o) r ≡ 0
-good o r e m t = fault-parts (blocksOf o) r ∙ (rw (e, m, t))
-
--- ---- the tests of the open blocks
-pub full-is-deep : (o : Open) (kind : ℕ) → ((eqb kind 4 || eqb kind 5) && leb 16 (o .depth)) ≡ true → tooDeep (blocksOf o) kind ≡ true
-full-is-deep o kind h = rw (length-stack (o .depth) (o .blocks), h)
-
-pub ninth-is-deep : (o : Open) (kind n : ℕ) → kind ≡ 4 → n ≤ o .depth → repeatsIn (stackOf n (o .blocks)) ≡ 8
-    → tooDeep (blocksOf o) kind ≡ true
-ninth-is-deep o kind n e h r =
-    let m : n + (o .depth - n) ≡ o .depth = omega arith in
-    let l : 8 ≤ repeatsIn (blocksOf o) = rw m at (rw r at (repeats-within n (o .depth - n) (o .blocks))) in
-    rw (e, le-leb 8 (repeatsIn (blocksOf o)) l) (or-true (leb 16 (length (blocksOf o))))
-
-pub not-deep : (o : Open) (kind : ℕ) → ((eqb kind 4 || eqb kind 5) && leb 16 (o .depth)) ≡ false
-    → repeatsIn (stackOf (cond (eqb kind 4) (o .depth) 0) (o .blocks)) < 8
-    → tooDeep (blocksOf o) kind ≡ false
-not-deep o kind h r = rw (length-stack (o .depth) (o .blocks), h) (pick (eqb kind 4) r)
+-- a record with no fault of its place is not misplaced, and opens no block inside 16
+pub placed : (blocks : List ℕ) (depth kind : ℕ) → placeFault (stackOf depth blocks) kind ≡ 0
+    → (misplaced (stackOf depth blocks) kind ≡ false) × (full depth kind ≡ false)
+unfolding placeFault
+placed blocks depth kind h =
+    pick (misplaced (stackOf depth blocks) kind) (full depth kind) (rw (length-stack depth blocks) at h)
   where
-    pick : (b : Bool) → repeatsIn (stackOf (cond b (o .depth) 0) (o .blocks)) < 8 → (b && leb 8 (repeatsIn (blocksOf o))) ≡ false
-    pick true l = lt-leb 8 (repeatsIn (blocksOf o)) l
+    pick : (m f : Bool) → _≡_ {A = ℕ} (cond m 5 (cond f 6 0)) 0 → (m ≡ false) × (f ≡ false)
+    pick true f q = absurd (omega arith)
+    pick false true q = absurd (omega arith)
+    pick false false q = (refl, refl)
+
+-- a write, a read or a delay may stand anywhere
+pub anywhere : (blocks : List ℕ) (kind : ℕ) → kind ≤ 3 → placeFault blocks kind ≡ 0
+unfolding placeFault
+anywhere blocks kind h = simp (
+  ne-eqb kind 4 (λ e. omega arith),
+  ne-eqb kind 5 (λ e. omega arith),
+  ne-eqb kind 6 (λ e. omega arith),
+  ne-eqb kind 7 (λ e. omega arith),
+)
+
+-- a repeat is never misplaced, so one inside 8 repeats is refused for its depth
+pub ninth-repeat : (blocks : List ℕ) (depth n : ℕ) (r : Record) → shapeFault r ≡ 0 → r .kind ≡ 4 → n ≤ depth
+    → repeatsIn (stackOf n blocks) ≡ 8 → recordFault (stackOf depth blocks) r ≡ 6
+ninth-repeat blocks depth n r s e h eight =
+    let m : n + (depth - n) ≡ depth = omega arith in
+    let l : 8 ≤ repeatsIn (stackOf depth blocks) = rw m at (rw eight at (repeats-within n (depth - n) blocks)) in
+    fault-parts (stackOf depth blocks) r
+    ∙ (rw (s, e, le-leb 8 (repeatsIn (stackOf depth blocks)) l, or-true (leb 16 (length (stackOf depth blocks)))))
+
+-- a record with no fault of its own or of its place has none, if a repeat's walk finds fewer than 8 repeats
+pub good : (blocks : List ℕ) (depth : ℕ) (r : Record) → shapeFault r ≡ 0 → placeFault (stackOf depth blocks) (r .kind) ≡ 0
+    → repeatsIn (stackOf (cond (eqb (r .kind) 4) depth 0) blocks) < 8 → recordFault (stackOf depth blocks) r ≡ 0
+good blocks depth r s p few =
+    let q = placed blocks depth (r .kind) p in
+    fault-parts (stackOf depth blocks) r
+    ∙ (rw (s, q .0, length-stack depth blocks, q .1, pick (eqb (r .kind) 4) few))
+  where
+    pick : (b : Bool) → repeatsIn (stackOf (cond b depth 0) blocks) < 8 → (b && leb 8 (repeatsIn (stackOf depth blocks))) ≡ false
+    pick true l = lt-leb 8 (repeatsIn (stackOf depth blocks)) l
     pick false l = refl
 
 pub walk-within : (b : Bool) (d : ℕ) → cond b d 0 ≤ d
@@ -190,34 +146,96 @@ walks kind d b h = pick (eqb kind 4) refl h
     pick true e l = eqb-true kind 4 e
     pick false e l = absurd (omega arith)
 
--- ---- what the scan answers
+-- ---- what holds before record k of so many
+pub record Going (bytes : List ℕ) (count : ℕ) (blocks : List ℕ) (depth words number k : ℕ) : Type 0 where
+  pub kept : Kept blocks depth
+  pub inside : k ≤ count
+  pub clear : number ≡ 0
+  pub fault :
+      firstFault [] 0 (recordsFrom count 0 bytes) ≡ firstFault (stackOf depth blocks) k (recordsFrom (count - k) k bytes)
+  pub given :
+      words + wordCount (stackOf depth blocks) (recordsFrom (count - k) k bytes)
+      ≡ suc (wordCount [] (recordsFrom count 0 bytes))
+  pub few : words ≤ suc k
+
+rest : (bytes : List ℕ) (count k : ℕ) → k < count
+    → recordsFrom (count - k) k bytes ≡ recordAt bytes (12 * k) ∷ recordsFrom (count - suc k) (suc k) bytes
+rest bytes count k h =
+    let e : count - k ≡ suc (count - suc k) = omega arith in
+    rw e
+
+-- before the first record
+pub starts : (bytes : List ℕ) (count : ℕ) (blocks : List ℕ) → length blocks ≡ 16 → Going bytes count blocks 0 1 0 0
+starts bytes count blocks l =
+    let z : count - 0 ≡ count = omega arith in
+    record {
+      kept = record { deep = omega arith; sized = l };
+      inside = omega arith;
+      clear = refl;
+      fault = rw z;
+      given = rw z (omega arith);
+      few = omega arith;
+    }
+
+counted : (b : Bool) (words w t : ℕ) → words + cond b (suc w) w ≡ t → (words + cond b 1 0) + w ≡ t
+counted true words w t h = omega arith
+counted false words w t h = omega arith
+
+pub at-most-one : (b : Bool) → cond b 1 0 ≤ 1
+at-most-one true = omega arith
+at-most-one false = omega arith
+
+-- ---- what the scan answers, and how a record leads to the next
 pub scan-faulted : (bytes : List ℕ) (count number k : ℕ) → count ≡ recordCount bytes
-    → firstFault [] 0 (recordsFrom count 0 bytes) ≡ refusal number k → (number ≡ 0 → ⊥)
-    → _≡_ {A = Found} (record { number = number; place = k; words = 0 }) (recordsScan bytes)
+    → firstFault [] 0 (recordsFrom count 0 bytes) ≡ refusal number k → (number ≡ 0 → ⊥) → refusedAt number k ≡ recordsScan bytes
 unfolding recordsScan recordsOf
 scan-faulted bytes count number k e f z = rw (rw e at f, ne-eqb number 0 z)
 
-last : (bytes : List ℕ) (count : ℕ) (o : Open) (words number k : ℕ) → Going bytes count o words number k → count ≤ k → k ≡ count
-last bytes count o words number k g h = omega (arith, g .inside)
+module _ (bytes : List ℕ) (count : ℕ) (blocks : List ℕ) (depth words number k : ℕ) (g : Going bytes count blocks depth words number k) where
+  -- a fault ends the scan with its number and place
+  pub faulty : (r : Record) (n : ℕ) → k < count → r ≡ recordAt bytes (12 * k) → recordFault (stackOf depth blocks) r ≡ n
+      → (n ≡ 0 → ⊥) → firstFault [] 0 (recordsFrom count 0 bytes) ≡ refusal n k
+  faulty r n h q e z =
+      g .fault ∙ ap (firstFault (stackOf depth blocks) k) (rest bytes count k h) ∙ (rw (rw q at e, ne-eqb n 0 z))
 
-pub scan-unended : (bytes : List ℕ) (count : ℕ) (o : Open) (words number k : ℕ) → Going bytes count o words number k
-    → count ≤ k → count ≡ recordCount bytes → (innermost (blocksOf o) ≡ 0 → ⊥)
-    → _≡_ {A = Found} (record { number = 7; place = k; words = 0 }) (recordsScan bytes)
-scan-unended bytes count o words number k g h e z =
-    let l : count - k ≡ 0 = omega arith in
-    let f = rw l at (g .fault) in
-    scan-faulted bytes count 7 k e (f ∙ (rw (ne-eqb (innermost (blocksOf o)) 0 z))) (λ q. omega arith)
+  -- a good record
+  pub further : (r : Record) (later : List ℕ) (next clear : ℕ) → k < count → r ≡ recordAt bytes (12 * k) → Kept later next
+      → clear ≡ 0 → recordFault (stackOf depth blocks) r ≡ 0 → stackOf next later ≡ openAfter (stackOf depth blocks) (r .kind)
+      → Going bytes count later next (words + cond (givesWord (stackOf depth blocks) (r .kind)) 1 0) clear (k + 1)
+  further r later next clear h q kp c z e = record {
+    kept = kp;
+    inside = omega arith;
+    clear = c;
+    fault =
+        g .fault
+        ∙ ap (firstFault (stackOf depth blocks) k) (rest bytes count k h ∙ ap (λ (x : Record). x ∷ recordsFrom (count - suc k) (suc k) bytes) (sym q))
+        ∙ (rw (z, add-one k, e));
+    given =
+        rw (add-one k, e)
+        (counted (givesWord (stackOf depth blocks) (r .kind)) words
+        (wordCount (openAfter (stackOf depth blocks) (r .kind)) (recordsFrom (count - suc k) (suc k) bytes)) _
+        (ap (λ (l : List Record). words + wordCount (stackOf depth blocks) l)
+        (ap (λ (x : Record). x ∷ recordsFrom (count - suc k) (suc k) bytes) q ∙ sym (rest bytes count k h))
+        ∙ g .given));
+    few = omega (arith, g .few, at-most-one (givesWord (stackOf depth blocks) (r .kind)));
+  }
 
-pub scan-done : (bytes : List ℕ) (count : ℕ) (o : Open) (words number k : ℕ) → Going bytes count o words number k
-    → count ≤ k → count ≡ recordCount bytes → innermost (blocksOf o) ≡ 0
-    → _≡_ {A = Found} (record { number = 0; place = 0; words = words }) (recordsScan bytes)
-unfolding recordsScan recordsOf
-scan-done bytes count o words number k g h e z =
-    let l : count - k ≡ 0 = omega arith in
-    let f = rw l at (g .fault) in
-    let n = rw l at (g .given) in
-    let w : words ≡ wordCount [] (recordsFrom count 0 bytes) = omega arith in
-    rw (w, ← e, f, z)
+  pub scan-unended : count ≤ k → count ≡ recordCount bytes → (innermost (stackOf depth blocks) ≡ 0 → ⊥)
+      → refusedAt 7 k ≡ recordsScan bytes
+  scan-unended h e z =
+      let l : count - k ≡ 0 = omega arith in
+      let f = rw l at (g .fault) in
+      scan-faulted bytes count 7 k e (f ∙ (rw (ne-eqb (innermost (stackOf depth blocks)) 0 z))) (λ q. omega arith)
+
+  pub scan-done : count ≤ k → count ≡ recordCount bytes → innermost (stackOf depth blocks) ≡ 0
+      → _≡_ {A = Found} (record { number = 0; place = 0; words = words }) (recordsScan bytes)
+  unfolding recordsScan recordsOf
+  scan-done h e z =
+      let l : count - k ≡ 0 = omega arith in
+      let f = rw l at (g .fault) in
+      let n = rw l at (g .given) in
+      let w : words ≡ wordCount [] (recordsFrom count 0 bytes) = omega arith in
+      rw (w, ← e, f, z)
 
 -- a list of records with no fault has no place either
 pub clean : (rs : List Record) (blocks : List ℕ) (place : ℕ) → firstFault blocks place rs .number ≡ 0
@@ -238,7 +256,7 @@ clean (r ∷ rs) blocks place h =
 
 -- ---- refusals 1 and 8 around the records' own
 pub scan-length : (bytes : List ℕ) → badLength bytes ≡ true
-    → _≡_ {A = Found} (record { number = 1; place = 0; words = 0 }) (scriptScan bytes)
+    → refusedAt 1 0 ≡ scriptScan bytes
 unfolding scriptScan scriptRefusal
 scan-length bytes h = rw h
 
@@ -265,7 +283,7 @@ module _ (bytes : List ℕ) (s : Found) (e : s ≡ recordsScan bytes) (h : badLe
       e ∙ (rw (h, n, n))
 
   pub scan-long : s .number ≡ 0 → 1024 < s .words
-      → _≡_ {A = Found} (record { number = 8; place = recordCount bytes; words = 0 }) (scriptScan bytes)
+      → refusedAt 8 (recordCount bytes) ≡ scriptScan bytes
   unfolding scriptScan scriptRefusal
   scan-long z l =
       let w : tooManyWords bytes ≡ true = rw (words-are z) at (lt-ltb 1024 (s .words) l) in

@@ -1,17 +1,15 @@
--- The open blocks as an array and a depth: a store at the depth is a push, one below it changes the innermost block, and
--- the walk over the array counts the repeats. Assumes nothing.
+-- The open blocks as an array and a depth: a store at the depth is a push, and one below it changes the innermost block.
+-- Assumes nothing.
 use Prim.Native.Nat.{ℕ, zero, suc, _+_, _-_, _≤_, _<_}
 use mathlib.Core.Path.{_≡_, refl, sym, ap, _∙_}
-use mathlib.Core.Bool.{Bool, true, false, cond}
-use mathlib.Core.List.{List, [], _∷_}
-use native.Mathlib.Decide.{decLe}
+use mathlib.Core.Bool.{false}
+use mathlib.Core.List.{List, _∷_}
 use native.Mathlib.Numerals.{add-one}
 use native.Mathlib.Omega.{arith}
-use lib.Dec.{eqb}
 use lib.ListN.{length, getD, set, length-set}
 use lib.Seq.{getD-set-same, getD-set-other}
-use Rattle.script.specs.Refusals.{innermost, misplaced, outer, repeatsIn}
-use Rattle.script.specs.Scan.{stackOf}
+use Rattle.script.specs.Refusals.{misplaced, outer}
+use Rattle.script.specs.Scan.{Kept, stackOf}
 
 -- a store at or behind the depth does not show
 pub stack-store : (n : ℕ) (xs : List ℕ) (i v : ℕ) → n ≤ i → stackOf n (set xs i v) ≡ stackOf n xs
@@ -25,6 +23,14 @@ stack-push n xs v h =
     rw add-one
     (ap (λ (x : ℕ). x ∷ stackOf n (set xs n v)) (getD-set-same xs n v 0 h)
     ∙ ap (_∷_ v) (stack-store n xs n v (omega arith)))
+
+-- a block opened inside fewer than 16 is kept
+pub opens : (blocks : List ℕ) (depth block : ℕ) → Kept blocks depth → depth < 16
+    → Kept (set blocks depth block) (depth + 1) × (stackOf (depth + 1) (set blocks depth block) ≡ block ∷ stackOf depth blocks)
+opens blocks depth block k h = (
+  record { deep = omega arith; sized = simp length-set (k .sized) },
+  stack-push depth blocks block (omega (arith, k .sized)),
+)
 
 pub stack-top : (n : ℕ) (xs : List ℕ) → 0 < n → stackOf n xs ≡ getD xs (n - 1) 0 ∷ stackOf (n - 1) xs
 stack-top zero xs h = absurd (omega arith)

@@ -6,22 +6,8 @@ use mathlib.Core.List.{List, [], _∷_}
 use lib.Dec.{eqb, leb}
 use lib.ListN.{getD, length}
 use Rattle.record.specs.declared.Record.{Record}
-use Rattle.script.specs.Records.{recordCount, recordsOf}
-use Rattle.script.specs.Refusals.{
-  badFields,
-  badKind,
-  firstFault,
-  givesWord,
-  innermost,
-  refusal,
-  repeatsIn,
-  scriptRefusal,
-  wordCount,
-  wordsIn,
-  wrongMark,
-  Refusal,
-}
-use Rattle.script.specs.declared.Open.{Open}
+use Rattle.script.specs.Records.{recordsOf}
+use Rattle.script.specs.Refusals.{badFields, badKind, firstFault, misplaced, scriptRefusal, wordsIn, wrongMark, Refusal}
 use Rattle.script.specs.declared.Found.{Found}
 
 -- what a record shows by itself: 2, 3, 4, or 0
@@ -33,17 +19,25 @@ abbrev pub stackOf : ℕ → List ℕ → List ℕ
 stackOf zero xs = []
 stackOf (suc n) xs = getD xs n 0 ∷ stackOf n xs
 
-abbrev pub blocksOf : Open → List ℕ
-blocksOf o = stackOf (o .depth) (o .blocks)
-
 -- there is room for 16 blocks, and no more are open
-pub record Kept (o : Open) : Type 0 where
-  pub deep : o .depth ≤ 16
-  pub sized : length (o .blocks) ≡ 16
+pub record Kept (blocks : List ℕ) (depth : ℕ) : Type 0 where
+  pub deep : depth ≤ 16
+  pub sized : length blocks ≡ 16
+
+-- a block opened inside 16
+abbrev pub full : (depth kind : ℕ) → Bool
+full depth kind = (eqb kind 4 || eqb kind 5) && leb 16 depth
+
+-- what a record shows by its place, but for the repeats around it: 5, 6, or 0
+unfoldable pub placeFault : List ℕ → ℕ → ℕ
+placeFault blocks kind = cond (misplaced blocks kind) 5 (cond (full (length blocks) kind) 6 0)
 
 -- a refusal has no words
 abbrev pub scanned : Refusal → ℕ → Found
 scanned f n = record { number = f .number; place = f .place; words = cond (eqb (f .number) 0) n 0 }
+
+abbrev pub refusedAt : (number place : ℕ) → Found
+refusedAt n p = record { number = n; place = p; words = 0 }
 
 -- refusals 2 to 7 of the records, or their words
 unfoldable pub recordsScan : List ℕ → Found

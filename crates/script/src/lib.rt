@@ -1,20 +1,22 @@
 // Scripts: document 01, "Scripts and images". The scan gives refusals 1 to 8, or how many words the script has.
 use record::Record;
 ghost use mathlib.Core.Path.{_≡_};
-ghost use mathlib.Core.Bool.{true, false, _&&_, _||_, cond};
-ghost use mathlib.Core.List.{[], _∷_};
-ghost use Prim.Native.Nat.{_+_, _*_, _≤_, _<_, _/_};
-ghost use lib.Dec.{eqb, leb};
+ghost use mathlib.Core.Bool.{cond};
+ghost use Prim.Native.Nat.{_≤_, _/_};
+ghost use lib.Dec.{eqb};
 ghost use lib.ListN.{length};
 ghost use Rattle.script.specs.Fields.{valueFields, readFields, countFields, noFields};
 ghost use Rattle.script.specs.Refusals.{badLength, goodFields, innermost, misplaced, openAfter, givesWord};
-ghost use Rattle.script.specs.Scan.{Kept, shapeFault, blocksOf, recordsScan, scriptScan};
-
-// The open blocks, innermost last: a repeat, an if still without an else, an if with its else.
-pub struct Open {
-    pub blocks: [u8; 16],
-    pub depth: usize,
-}
+ghost use Rattle.script.specs.Scan.{
+  Kept,
+  full,
+  placeFault,
+  recordsScan,
+  refusedAt,
+  scriptScan,
+  shapeFault,
+  stackOf,
+};
 
 // What a scan finds: a refusal with its place, or number 0 and how many words the script gives.
 pub struct Found {
@@ -36,6 +38,13 @@ pub const IF: u32 = 5;
 pub const ELSE: u32 = 6;
 
 pub const END: u32 = 7;
+
+// The open blocks: a repeat, an if still without an else, an if with its else.
+const OPEN_REPEAT: u8 = 4;
+
+const OPEN_IF: u8 = 5;
+
+const OPEN_ELSE: u8 = 6;
 
 // No block opens inside this many.
 const MOST_BLOCKS: usize = 16;
@@ -127,124 +136,129 @@ fn shape_fault(r: Record) -> u32
     4
 }
 
-impl Open {
-    pub fn none() -> Self
-        ensures { λ o. ⌜ Kept o × (o .depth ≡ 0) ⌝ }
-    {
-        Open {
-            blocks: [0; 16],
-            depth: 0,
-        }
-    }
+// ---- the open blocks: the first `depth` of an array, innermost last
 
-    // The kind of the innermost open block, or 0.
-    pub fn innermost(self) -> u8
-        requires { ⌜ Kept self ⌝ }
-        ensures { λ r. ⌜ r ≡ innermost (blocksOf self) ⌝ }
-    {
-        let depth = self.depth;
-        if depth == 0 {
-            return 0;
-        }
-        let at = depth - 1;
-        self.blocks[at]
+// The innermost open block, or 0.
+fn innermost(blocks: &[u8; 16], depth: usize) -> u8
+    requires { ⌜ depth ≤ 16 ⌝ }
+    ensures { λ r. ⌜ r ≡ innermost (stackOf depth (now (blocks .entry))) ⌝ }
+{
+    if depth == 0 {
+        return 0;
     }
-
-    // An else that is not in an if still without one, or an end with no open block.
-    fn misplaced(self, kind: u32) -> bool
-        requires { ⌜ Kept self ⌝ }
-        ensures { λ r. ⌜ r ≡ misplaced (blocksOf self) kind ⌝ }
-    {
-        let innermost = self.innermost();
-        if kind == ELSE {
-            return innermost != 5;
-        }
-        if kind == END {
-            return innermost == 0;
-        }
-        false
-    }
-
-    // A block opened inside 16.
-    fn is_full(self, kind: u32) -> bool
-        ensures { λ r. ⌜ r ≡ ((eqb kind 4 || eqb kind 5) && leb 16 (self .depth)) ⌝ }
-    {
-        if kind == REPEAT {
-            return MOST_BLOCKS <= self.depth;
-        }
-        if kind == IF {
-            return MOST_BLOCKS <= self.depth;
-        }
-        false
-    }
-
-    // How many open blocks a record of this kind has to look at: a repeat at all of them.
-    fn walk(self, kind: u32) -> usize
-        ensures { λ r. ⌜ r ≡ cond (eqb kind 4) (self .depth) 0 ⌝ }
-    {
-        if kind == REPEAT {
-            return self.depth;
-        }
-        0
-    }
-
-    // Does a record of this kind give a word? The end of an if gives none.
-    fn gives(self, kind: u32) -> u32
-        requires { ⌜ Kept self ⌝ }
-        ensures { λ r. ⌜ r ≡ cond (givesWord (blocksOf self) kind) 1 0 ⌝ }
-    {
-        if kind != END {
-            return 1;
-        }
-        if self.innermost() == 4 {
-            return 1;
-        }
-        0
-    }
-
-    // The open blocks behind a record that is well placed.
-    fn after(mut self, kind: u32) -> Self
-        requires { ⌜ Kept self ⌝ }
-        requires { ⌜ ((eqb kind 4 || eqb kind 5) && leb 16 (self .depth)) ≡ false ⌝ }
-        requires { ⌜ misplaced (blocksOf self) kind ≡ false ⌝ }
-        ensures { λ r. ⌜ Kept r × (blocksOf r ≡ openAfter (blocksOf self) kind) ⌝ }
-    {
-        let depth = self.depth;
-        if kind == REPEAT {
-            return self.pushed(4);
-        }
-        if kind == IF {
-            return self.pushed(5);
-        }
-        if kind == ELSE {
-            self.blocks[depth - 1] = 6;
-            return self;
-        }
-        if kind == END {
-            self.depth = depth - 1;
-            return self;
-        }
-        self
-    }
-
-    fn pushed(mut self, block: u8) -> Self
-        requires { ⌜ Kept self × (self .depth < 16) ⌝ }
-        ensures { λ r. ⌜ Kept r × (blocksOf r ≡ block ∷ blocksOf self) ⌝ }
-    {
-        let depth = self.depth;
-        self.blocks[depth] = block;
-        self.depth = depth + 1;
-        self
-    }
+    let at = depth - 1;
+    blocks[at]
 }
 
+// An else that is not in an if still without one, or an end with no open block.
+fn is_misplaced(blocks: &[u8; 16], depth: usize, kind: u32) -> bool
+    requires { ⌜ depth ≤ 16 ⌝ }
+    ensures { λ r. ⌜ r ≡ misplaced (stackOf depth (now (blocks .entry))) kind ⌝ }
+{
+    let innermost = innermost(blocks, depth);
+    if kind == ELSE {
+        return innermost != OPEN_IF;
+    }
+    if kind == END {
+        return innermost == 0;
+    }
+    false
+}
+
+// A block opened inside 16.
+fn is_full(depth: usize, kind: u32) -> bool
+    ensures { λ r. ⌜ r ≡ full depth kind ⌝ }
+{
+    if kind == REPEAT {
+        return MOST_BLOCKS <= depth;
+    }
+    if kind == IF {
+        return MOST_BLOCKS <= depth;
+    }
+    false
+}
+
+// What a record shows by its place, but for the repeats around it: 5, 6, or 0.
+fn place_fault(blocks: &[u8; 16], depth: usize, kind: u32) -> u32
+    requires { ⌜ depth ≤ 16 ⌝ }
+    ensures { λ r. ⌜ r ≡ placeFault (stackOf depth (now (blocks .entry))) kind ⌝ }
+{
+    if is_misplaced(blocks, depth, kind) {
+        return 5;
+    }
+    if is_full(depth, kind) {
+        return 6;
+    }
+    0
+}
+
+// How many open blocks a record of this kind has to look at: a repeat at all of them.
+fn walk(depth: usize, kind: u32) -> usize
+    ensures { λ r. ⌜ r ≡ cond (eqb kind 4) depth 0 ⌝ }
+{
+    if kind == REPEAT {
+        return depth;
+    }
+    0
+}
+
+// What a block adds to the repeats that a walk counts.
 fn is_repeat(block: u8) -> u32
     ensures { λ r. ⌜ r ≡ cond (eqb block 4) 1 0 ⌝ }
 {
-    if block == 4 {
+    if block == OPEN_REPEAT {
         return 1;
     }
     0
+}
+
+// Does a record of this kind give a word? The end of an if gives none.
+fn gives(blocks: &[u8; 16], depth: usize, kind: u32) -> u32
+    requires { ⌜ depth ≤ 16 ⌝ }
+    ensures { λ r. ⌜ r ≡ cond (givesWord (stackOf depth (now (blocks .entry))) kind) 1 0 ⌝ }
+{
+    if kind != END {
+        return 1;
+    }
+    is_repeat(innermost(blocks, depth))
+}
+
+// Opens, changes or closes a block as a record that is well placed asks; the depth behind it.
+fn after(blocks: &mut [u8; 16], depth: usize, kind: u32) -> usize
+    requires { ⌜ Kept (now blocks) depth ⌝ }
+    requires { ⌜ placeFault (stackOf depth (now blocks)) kind ≡ 0 ⌝ }
+    ensures { λ r. ⌜ Kept (now (blocks .exit)) r × (stackOf r (now (blocks .exit)) ≡ openAfter (stackOf depth (now (blocks .entry))) kind) ⌝ }
+{
+    if kind == REPEAT {
+        blocks[depth] = OPEN_REPEAT;
+        return depth + 1;
+    }
+    if kind == IF {
+        blocks[depth] = OPEN_IF;
+        return depth + 1;
+    }
+    if kind == ELSE {
+        blocks[depth - 1] = OPEN_ELSE;
+        return depth;
+    }
+    if kind == END {
+        return depth - 1;
+    }
+    depth
+}
+
+// ---- the scan
+
+// A refusal has no words.
+fn refused(number: u32, place: usize) -> Found
+    requires { ⌜ place ≤ 1024 ⌝ }
+    ensures { λ r. ⌜ r ≡ refusedAt number place ⌝ }
+{
+    Found {
+        number,
+        place: place as u32,
+        words: 0,
+    }
 }
 
 // Refusals 2 to 7, or how many words the records give.
@@ -252,28 +266,26 @@ fn scan_records(script: &[u8], count: usize) -> Found
     requires { ⌜ (count ≤ 1024) × (count ≡ length (now script) / 12) ⌝ }
     ensures { λ r. ⌜ r ≡ recordsScan (now (script .entry)) ⌝ }
 {
-    let mut open = Open::none();
+    let mut blocks: [u8; 16] = [0; 16];
+    let mut depth: usize = 0;
     let mut words: u32 = 1;
     let mut number: u32 = 0;
     let mut k: usize = 0;
     'scan: while k < count {
         let r = record::read(script, 12 * k);
         let kind = r.kind;
-        let shape = shape_fault(r);
-        if shape != 0 {
-            number = shape;
+        number = shape_fault(r);
+        if number != 0 {
             break 'scan;
         }
-        if open.misplaced(kind) {
-            number = 5;
-            break 'scan;
+        // A write, a read or a delay may stand anywhere, and most records are such: their place is not looked at.
+        if DELAY < kind {
+            number = place_fault(&blocks, depth, kind);
+            if number != 0 {
+                break 'scan;
+            }
         }
-        if open.is_full(kind) {
-            number = 6;
-            break 'scan;
-        }
-        let blocks = open.blocks;
-        let walk = open.walk(kind);
+        let walk = walk(depth, kind);
         let mut repeats: u32 = 0;
         let mut b: usize = 0;
         while b < walk {
@@ -284,23 +296,15 @@ fn scan_records(script: &[u8], count: usize) -> Found
             }
             b = b + 1;
         }
-        words = words + open.gives(kind);
-        open = open.after(kind);
+        words = words + gives(&blocks, depth, kind);
+        depth = after(&mut blocks, depth, kind);
         k = k + 1;
     }
     if number != 0 {
-        return Found {
-            number,
-            place: k as u32,
-            words: 0,
-        };
+        return refused(number, k);
     }
-    if open.innermost() != 0 {
-        return Found {
-            number: 7,
-            place: k as u32,
-            words: 0,
-        };
+    if innermost(&blocks, depth) != 0 {
+        return refused(7, k);
     }
     Found {
         number: 0,
@@ -324,11 +328,7 @@ pub fn scan(script: &[u8]) -> Found
     ensures { λ r. ⌜ r ≡ scriptScan (now (script .entry)) ⌝ }
 {
     if bad_length(script) {
-        return Found {
-            number: 1,
-            place: 0,
-            words: 0,
-        };
+        return refused(1, 0);
     }
     let count = script.len() / 12;
     let s = scan_records(script, count);
@@ -336,11 +336,7 @@ pub fn scan(script: &[u8]) -> Found
         return s;
     }
     if 1024 < s.words {
-        return Found {
-            number: 8,
-            place: count as u32,
-            words: 0,
-        };
+        return refused(8, count);
     }
     s
 }

@@ -8,8 +8,11 @@ use Rattle.script.proofs.scan.Tie as tie
 bad-length-requires : tie.Need-bad-length-requires
 bad-length-requires c κs = search needs
 
+refused-requires : tie.Need-refused-requires
+refused-requires c κs = search needs
+
 returns : tie.Need-returns
-returns c = scan-length _ (sym (c .before .bad-length .ensures) ∙ c .if1 .taken)
+returns c = c .refused .ensures ∙ scan-length _ (sym (c .before .before .bad-length .ensures) ∙ c .before .if1 .taken)
 
 scan-records-requires : tie.Need-scan-records-requires
 scan-records-requires c κs = (few-records (c .before .before .before .args .script .now) (sym (c .before .bad-length .ensures) ∙ c .if1 .left), refl)
@@ -19,16 +22,15 @@ returns-2 c =
     scan-refused _ _ (c .before .before .scan-records .ensures) (sym (c .before .before .before .before .bad-length .ensures) ∙ c .before .before .before .if1 .left)
     (c .if2 .taken)
 
-cast-t7 : tie.Need-cast-t7
-cast-t7 c =
-    let h = few-records (c .before .before .before .before .before .before .before .before .args .script .now) (sym (c .before .before .before .before .before .before .bad-length .ensures) ∙ c .before .before .before .before .before .if1 .left) in
-    search needs
+refused-requires-2 : tie.Need-refused-requires-2
+refused-requires-2 c κs = few-records (c .before .before .before .before .before .before .before .before .args .script .now) (sym (c .before .before .before .before .before .before .bad-length .ensures) ∙ c .before .before .before .before .before .if1 .left)
 
 returns-3 : tie.Need-returns-3
 returns-3 c =
-    scan-long _ _ (c .before .before .before .before .scan-records .ensures)
-    (sym (c .before .before .before .before .before .before .bad-length .ensures) ∙ c .before .before .before .before .before .if1 .left)
-    (c .before .before .if2 .left) (c .if3 .taken)
+    c .refused2 .ensures
+    ∙ scan-long _ _ (c .before .before .before .before .before .scan-records .ensures)
+    (sym (c .before .before .before .before .before .before .before .bad-length .ensures) ∙ c .before .before .before .before .before .before .if1 .left)
+    (c .before .before .before .if2 .left) (c .before .if3 .taken)
 
 returns-4 : tie.Need-returns-4
 returns-4 c =
@@ -39,4 +41,12 @@ returns-4 c =
 pub scan-spec : {M : Type 1} → statement M
 scan-spec =
     tie.close
-    (tie.spec bad-length-requires returns scan-records-requires returns-2 cast-t7 returns-3 returns-4)
+    (tie.spec
+    bad-length-requires
+    refused-requires
+    returns
+    scan-records-requires
+    returns-2
+    refused-requires-2
+    returns-3
+    returns-4)

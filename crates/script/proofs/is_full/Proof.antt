@@ -1,15 +1,15 @@
--- `script::Open::is_full` meets its contract. Assumes nothing.
+-- `script::is_full` meets its contract. Assumes nothing.
 use borrow.Author.Tests.{eq-eqb, ne-eqb}
-use Rattle.script.proofs.Open.is_full.Statement.{statement}
-use Rattle.script.proofs.Open.is_full.Tie as tie
+use Rattle.script.proofs.is_full.Statement.{statement}
+use Rattle.script.proofs.is_full.Tie as tie
 
 returns : tie.Need-returns
-returns c = simp (eq-eqb _ _ (c .before .if1 .taken))
+returns c = simp (eq-eqb _ _ (c .if1 .taken))
 
 returns-2 : tie.Need-returns-2
 returns-2 c = simp (
-  ne-eqb _ _ (c .before .before .if1 .left),
-  eq-eqb _ _ (c .before .if2 .taken),
+  ne-eqb _ _ (c .before .if1 .left),
+  eq-eqb _ _ (c .if2 .taken),
 )
 
 returns-3 : tie.Need-returns-3

@@ -1,10 +1,10 @@
--- `script::Open::misplaced` meets its contract. Assumes nothing.
+-- `script::is_misplaced` meets its contract. Assumes nothing.
 use mathlib.Core.Path.{sym}
 use mathlib.Core.Bool.{or-false}
 use borrow.Author.Tests.{eq-eqb, ne-eqb}
 use borrow.Author.Needs.{needs}
-use Rattle.script.proofs.Open.misplaced.Statement.{statement}
-use Rattle.script.proofs.Open.misplaced.Tie as tie
+use Rattle.script.proofs.is_misplaced.Statement.{statement}
+use Rattle.script.proofs.is_misplaced.Tie as tie
 
 innermost-requires : tie.Need-innermost-requires
 innermost-requires c κs = search needs
@@ -20,11 +20,7 @@ returns-2 c = simp (
 )
 
 returns-3 : tie.Need-returns-3
-returns-3 c = simp (
-  ← (c .before .before .innermost .ensures),
-  ne-eqb _ _ (c .before .if1 .left),
-  ne-eqb _ _ (c .if2 .left),
-)
+returns-3 c = simp (ne-eqb _ _ (c .before .if1 .left), ne-eqb _ _ (c .if2 .left))
 
-pub misplaced-spec : {M : Type 1} → statement M
-misplaced-spec = tie.close (tie.spec innermost-requires returns returns-2 returns-3)
+pub is-misplaced-spec : {M : Type 1} → statement M
+is-misplaced-spec = tie.close (tie.spec innermost-requires returns returns-2 returns-3)

@@ -1,10 +1,10 @@
--- `script::Open::innermost` meets its contract. Assumes nothing.
+-- `script::innermost` meets its contract. Assumes nothing.
 use Prim.Native.Nat.{_<_}
 use native.Mathlib.Omega.{arith}
 use Rattle.script.proofs.Stack.{stack-top}
 use borrow.Author.Needs.{needs}
-use Rattle.script.proofs.Open.innermost.Statement.{statement}
-use Rattle.script.proofs.Open.innermost.Tie as tie
+use Rattle.script.proofs.innermost.Statement.{statement}
+use Rattle.script.proofs.innermost.Tie as tie
 
 returns : tie.Need-returns
 returns c = search needs
@@ -17,8 +17,9 @@ element-copy-out-result c = search needs
 
 returns-2 : tie.Need-returns-2
 returns-2 c =
-    let h : 0 < c .before .before .args .t1 .depth = omega (arith, c .before .if1 .left) in
-    rw (stack-top (c .before .before .args .t1 .depth) (c .before .before .args .t1 .blocks) h)
+    let a = c .before .before .args in
+    let h : 0 < a .depth = omega (arith, c .before .if1 .left) in
+    rw (stack-top (a .depth) (a .blocks .now) h)
 
 pub innermost-spec : {M : Type 1} → statement M
 innermost-spec = tie.close (tie.spec returns sub-at element-copy-out-result returns-2)

@@ -1,7 +1,7 @@
--- `script::Open::walk` meets its contract. Assumes nothing.
+-- `script::walk` meets its contract. Assumes nothing.
 use borrow.Author.Tests.{eq-eqb, ne-eqb}
-use Rattle.script.proofs.Open.walk.Statement.{statement}
-use Rattle.script.proofs.Open.walk.Tie as tie
+use Rattle.script.proofs.walk.Statement.{statement}
+use Rattle.script.proofs.walk.Tie as tie
 
 returns : tie.Need-returns
 returns c = simp (eq-eqb _ _ (c .if1 .taken))
