@@ -6,11 +6,10 @@ use lib.Bits.{bitAnd}
 use lib.Dec.{eqb}
 use Rattle.mask.proofs.Branch.{branch}
 use Rattle.config.specs.Config.{configDataWritten, configIndexWritten, controlWritten, registerWritten}
-use Rattle.config.specs.Key.{keyWritten}
+use Rattle.config.specs.Key.{KeyWritten, keyWritten}
 use Rattle.config.specs.declared.Config.{Config}
 use Rattle.config.specs.declared.Written.{Written}
 use Rattle.config.specs.declared.key.Key.{Key}
-use Rattle.config.specs.declared.key.KeyWritten.{KeyWritten}
 
 -- done, or nothing is changed
 abbrev pub Kept : Config → Written → Type 0

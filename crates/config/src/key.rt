@@ -2,16 +2,10 @@
 use access::Answer;
 ghost use mathlib.Core.Path.{_≡_};
 ghost use Prim.Native.Nat.{_<_};
-ghost use Rattle.config.specs.Key.{freshKey, keyRead, keyWritten};
+ghost use Rattle.config.specs.Key.{freshKey, key, keyRead, keyWritten, wrote};
 
 pub struct Key {
     pub bytes: [u8; 32],
-}
-
-// The status of a write, and the key after it.
-pub struct KeyWritten {
-    pub status: u32,
-    pub key: Key,
 }
 
 impl Key {
@@ -25,30 +19,26 @@ impl Key {
         Key { bytes: [0; 32] }
     }
 
-    pub fn read(self, control: u8, at: usize) -> Answer
+    // Key bytes are read, and changed, where they stand.
+    pub fn read(bytes: &[u8; 32], control: u8, at: usize) -> Answer
         requires { ⌜ at < 32 ⌝ }
-        ensures { λ r. ⌜ r ≡ keyRead self control at ⌝ }
+        ensures { λ r. ⌜ r ≡ keyRead (key (now (bytes .entry))) control at ⌝ }
     {
         if control & Key::READ_LOCK == 0 {
-            return Answer::done(mask::wide8(self.bytes[at]));
+            return Answer::done(mask::wide8(bytes[at]));
         }
         Answer::bare(Answer::BLOCKED)
     }
 
-    pub fn write(mut self, control: u8, at: usize, value: u8) -> KeyWritten
+    // The status of a write.
+    pub fn write(bytes: &mut [u8; 32], control: u8, at: usize, value: u8) -> u32
         requires { ⌜ at < 32 ⌝ }
-        ensures { λ r. ⌜ r ≡ keyWritten self control at value ⌝ }
+        ensures { λ r. ⌜ wrote r (key (now (bytes .exit))) ≡ keyWritten (key (now (bytes .entry))) control at value ⌝ }
     {
         if control & Key::WRITE_LOCK == 0 {
-            self.bytes[at] = value;
-            return KeyWritten {
-                status: Answer::DONE,
-                key: self,
-            };
+            bytes[at] = value;
+            return Answer::DONE;
         }
-        KeyWritten {
-            status: Answer::BLOCKED,
-            key: self,
-        }
+        Answer::BLOCKED
     }
 }

@@ -66,6 +66,7 @@ use Rattle.device.specs.Event.{
 }
 use Rattle.device.specs.Owner.{taker}
 use Rattle.device.specs.Reach.{
+  MonitorReached,
   accessed,
   acpiReached,
   configReached,
@@ -76,7 +77,6 @@ use Rattle.device.specs.Reach.{
 use Rattle.device.specs.declared.Device.{Device}
 use Rattle.device.specs.declared.Reached.{Reached}
 use Rattle.device.specs.declared.reach.ConfigReached.{ConfigReached}
-use Rattle.device.specs.declared.reach.MonitorReached.{MonitorReached}
 
 -- ---- block by block
 together : (d : Device) → configInRange (d .config) ≡ true → monitorInRange (d .monitor) ≡ true

@@ -12,6 +12,8 @@ use Rattle.acpi.specs.declared.Read.{Read}
 use Rattle.device.specs.Device.{settledDevice, withAcpi}
 use Rattle.device.specs.Owner.{taker}
 use Rattle.device.specs.Reach.{
+  KeyReached,
+  MonitorReached,
   accessed,
   acpiReached,
   answered,
@@ -27,8 +29,6 @@ use Rattle.device.specs.Reach.{
 }
 use Rattle.device.specs.declared.Device.{Device}
 use Rattle.device.specs.declared.reach.ConfigReached.{ConfigReached}
-use Rattle.device.specs.declared.reach.KeyReached.{KeyReached}
-use Rattle.device.specs.declared.reach.MonitorReached.{MonitorReached}
 
 module _ (d : Device) (x : Access) where
   pub by-config : (r : ConfigReached) → taker (d .config) x ≡ 1 → r ≡ configReached (d .config) x → reached d x ≡ byConfig d r

@@ -18,6 +18,8 @@ use Rattle.monitor.specs.declared.Monitor.{Monitor}
 use Rattle.device.specs.Device.{settledDevice, withAcpi, withConfig, withKey, withMonitor}
 use Rattle.device.specs.Owner.{taker}
 use Rattle.device.specs.Reach.{
+  KeyReached,
+  MonitorReached,
   accessed,
   acpiReached,
   configReached,
@@ -28,8 +30,6 @@ use Rattle.device.specs.Reach.{
 use Rattle.device.specs.declared.Device.{Device}
 use Rattle.device.specs.declared.Reached.{Reached}
 use Rattle.device.specs.declared.reach.ConfigReached.{ConfigReached}
-use Rattle.device.specs.declared.reach.KeyReached.{KeyReached}
-use Rattle.device.specs.declared.reach.MonitorReached.{MonitorReached}
 
 -- done, or nothing is changed
 abbrev pub Kept : Device → Reached → Type 0

@@ -27,8 +27,6 @@ use Rattle.device.specs.Owner.{taker}
 use Rattle.device.specs.declared.Device.{Device}
 use Rattle.device.specs.declared.Reached.{Reached}
 use Rattle.device.specs.declared.reach.ConfigReached.{ConfigReached}
-use Rattle.device.specs.declared.reach.KeyReached.{KeyReached}
-use Rattle.device.specs.declared.reach.MonitorReached.{MonitorReached}
 
 -- ---- each block's answer, and the block after it; a byte is what a write of width 1 writes
 abbrev pub configAnswers : Answer → Config → ConfigReached
@@ -51,10 +49,14 @@ acpiReached a x =
     (acpiWritten a (x .port - 0xAC00) (x .width) (x .value) .acpi))
     (acpiRead a (x .port - 0xAC00) (x .width))
 
--- "One byte index, readable, and data."
+pub record MonitorReached : Type 0 where
+  pub answer : Answer
+  pub monitor : Monitor
+
 abbrev pub monitorAnswers : Answer → Monitor → MonitorReached
 monitorAnswers r m = record { answer = r; monitor = m }
 
+-- "One byte index, readable, and data."
 unfoldable pub monitorReached : Config → Monitor → Access → MonitorReached
 monitorReached g m x =
     cond (eqb (x .port) (runtimeBase g + 0x70))
@@ -63,6 +65,10 @@ monitorReached g m x =
     (cond (x .write)
     (monitorAnswers (bare (monitorDataWritten m (x .value % 256) .status)) (monitorDataWritten m (x .value % 256) .monitor))
     (monitorAnswers (monitorDataRead m) m))
+
+pub record KeyReached : Type 0 where
+  pub answer : Answer
+  pub key : Key
 
 abbrev pub keyAnswers : Answer → Key → KeyReached
 keyAnswers r k = record { answer = r; key = k }

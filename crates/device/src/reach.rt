@@ -10,6 +10,8 @@ use monitor::Monitor;
 ghost use mathlib.Core.Path.{_≡_};
 ghost use mathlib.Core.Bool.{true};
 ghost use Prim.Native.Nat.{_%_, _≤_};
+ghost use Rattle.config.specs.Key.{key};
+ghost use Rattle.monitor.specs.Monitor.{monitor};
 ghost use Rattle.device.specs.Owner.{keyClaims};
 ghost use Rattle.device.specs.Reach.{
   configAnswers,
@@ -34,14 +36,10 @@ pub struct ConfigReached {
     pub config: Config,
 }
 
-pub struct MonitorReached {
+// The monitor's answer, and its index after the access; the registers change where they stand.
+pub struct MonitorAnswer {
     pub answer: Answer,
-    pub monitor: Monitor,
-}
-
-pub struct KeyReached {
-    pub answer: Answer,
-    pub key: Key,
+    pub index: u8,
 }
 
 // The byte that a write of width 1 writes.
@@ -93,49 +91,47 @@ pub fn acpi_reached(acpi: Acpi, access: Access) -> Read
     acpi.read(offset, access.width)
 }
 
-fn monitor_answers(answer: Answer, monitor: Monitor) -> MonitorReached
-    ensures { λ r. ⌜ r ≡ monitorAnswers answer monitor ⌝ }
+fn monitor_answers(answer: Answer, index: u8) -> MonitorAnswer
+    ensures { λ r. ⌜ (r .answer ≡ answer) × (r .index ≡ index) ⌝ }
 {
-    MonitorReached { answer, monitor }
+    MonitorAnswer { answer, index }
 }
 
-pub fn monitor_reached(config: Config, monitor: Monitor, access: Access) -> MonitorReached
-    ensures { λ r. ⌜ r ≡ monitorReached config monitor access ⌝ }
+pub fn monitor_reached(
+    config: Config,
+    index: u8,
+    registers: &mut [u8; 12],
+    access: Access,
+) -> MonitorAnswer
+    ensures { λ r. ⌜ monitorAnswers (r .answer) (monitor (r .index) (now (registers .exit))) ≡ monitorReached config (monitor index (now (registers .entry))) access ⌝ }
 {
     let byte = low_byte(access.value);
     if access.port == config.runtime_base() + Device::MONITOR_INDEX {
         if access.write {
-            let next = monitor.write_index(byte);
-            return monitor_answers(Answer::bare(Answer::DONE), next);
+            return monitor_answers(Answer::bare(Answer::DONE), byte);
         }
-        return monitor_answers(Answer::done(mask::wide8(monitor.index)), monitor);
+        return monitor_answers(Answer::done(mask::wide8(index)), index);
     }
     if access.write {
-        let written = monitor.write_data(byte);
-        let next = written.monitor;
-        return monitor_answers(Answer::bare(written.status), next);
+        let status = Monitor::write_data(index, registers, byte);
+        return monitor_answers(Answer::bare(status), index);
     }
-    monitor_answers(monitor.read_data(), monitor)
+    let answer = Monitor::read_data(index, registers);
+    monitor_answers(answer, index)
 }
 
-fn key_answers(answer: Answer, key: Key) -> KeyReached
-    ensures { λ r. ⌜ r ≡ keyAnswers answer key ⌝ }
-{
-    KeyReached { answer, key }
-}
-
-pub fn key_reached(config: Config, key: Key, access: Access) -> KeyReached
+// The key's answer; its bytes change where they stand.
+pub fn key_reached(config: Config, bytes: &mut [u8; 32], access: Access) -> Answer
     requires { ⌜ keyClaims config (access .port) ≡ true ⌝ }
-    ensures { λ r. ⌜ r ≡ keyReached config key access ⌝ }
+    ensures { λ r. ⌜ keyAnswers r (key (now (bytes .exit))) ≡ keyReached config (key (now (bytes .entry))) access ⌝ }
 {
     let control = config.control;
     let at = (access.port - config.key_base()) as usize;
     if access.write {
-        let written = key.write(control, at, low_byte(access.value));
-        let next = written.key;
-        return key_answers(Answer::bare(written.status), next);
+        let status = Key::write(bytes, control, at, low_byte(access.value));
+        return Answer::bare(status);
     }
-    key_answers(key.read(control, at), key)
+    Key::read(bytes, control, at)
 }
 
 // What is answered: a write's value is 0, and a read gives what its status says.
@@ -181,19 +177,18 @@ impl Device {
             return reach(answer, self);
         }
         if taker == Device::MONITOR {
-            let monitor = self.monitor;
-            let r = monitor_reached(config, monitor, access);
+            let r = monitor_reached(
+                config,
+                self.monitor.index,
+                &mut self.monitor.registers,
+                access,
+            );
             let answer = r.answer;
-            let next = r.monitor;
-            self.monitor = next;
+            self.monitor.index = r.index;
             return reach(answer, self);
         }
         if taker == Device::KEY {
-            let key = self.key;
-            let r = key_reached(config, key, access);
-            let answer = r.answer;
-            let next = r.key;
-            self.key = next;
+            let answer = key_reached(config, &mut self.key.bytes, access);
             return reach(answer, self);
         }
         reach(Answer::bare(Answer::UNCLAIMED), self)

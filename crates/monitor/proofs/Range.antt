@@ -20,6 +20,7 @@ use Rattle.monitor.proofs.Tables.{slot-below}
 use Rattle.monitor.specs.Monitor.{
   freshMonitor,
   heldWritten,
+  Written,
   lockSet,
   monitorDataWritten,
   monitorInRange,
@@ -45,7 +46,6 @@ use Rattle.monitor.specs.Table.{
   table,
 }
 use Rattle.monitor.specs.declared.Monitor.{Monitor}
-use Rattle.monitor.specs.declared.Written.{Written}
 
 -- ---- each register that can change has a place of its own: computed over the 256 indices; no row lies above them
 abbrev placed : ℕ → Bool
@@ -126,7 +126,7 @@ module _ (m : Monitor) (h : monitorInRange m ≡ true) where
 
       held-written : Kept (heldWritten m v)
       held-written =
-          branch Kept (lockSet m) h
+          branch Kept (lockSet (m .registers)) h
           (branch Kept (eqb (kindOf (m .index)) lock)
           (kept-stored (slotOf (m .index)) (bitOr (register m (m .index)) (bitAnd v (maskOf (m .index))))
           (within-or (maskOf (getD storedIndices (slotOf (m .index)) 0)) (register m (m .index))

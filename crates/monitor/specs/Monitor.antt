@@ -11,7 +11,6 @@ use Rattle.mask.specs.Every.{allBelow}
 use Rattle.mask.specs.Mask.{within, cleared, hasBit}
 use Rattle.monitor.specs.Table.{absent, readOnly, lock, free, clear, kindOf, resetOf, maskOf, slotOf, storedIndices}
 use Rattle.monitor.specs.declared.Monitor.{Monitor}
-use Rattle.monitor.specs.declared.Written.{Written}
 
 -- "Reset 1 also the monitor, its index and Lock."
 unfoldable pub freshMonitor : Monitor
@@ -21,8 +20,16 @@ freshMonitor = record { index = 0; registers = map resetOf storedIndices }
 abbrev pub register : Monitor → ℕ → ℕ
 register m i = getD (m .registers) (slotOf i) 0
 
+abbrev pub monitor : ℕ → List ℕ → Monitor
+monitor index registers = record { index = index; registers = registers }
+
 abbrev pub stored : Monitor → ℕ → ℕ → Monitor
-stored m slot v = record { index = m .index; registers = set (m .registers) slot v }
+stored m slot v = monitor (m .index) (set (m .registers) slot v)
+
+-- the status of a write, and the monitor after it
+pub record Written : Type 0 where
+  pub status : ℕ
+  pub monitor : Monitor
 
 abbrev pub written : ℕ → Monitor → Written
 written s m = record { status = s; monitor = m }
@@ -35,8 +42,8 @@ unfoldable pub monitorInRange : Monitor → Bool
 monitorInRange m = allBelow 12 (slotInRange (m .registers))
 
 -- "40h: Lock is bit 1"
-abbrev pub lockSet : Monitor → Bool
-lockSet m = hasBit 0x02 (getD (m .registers) 0 0)
+abbrev pub lockSet : List ℕ → Bool
+lockSet registers = hasBit 0x02 (getD registers 0 0)
 
 -- ---- the data register. "those not listed are status 4"
 unfoldable pub monitorDataRead : Monitor → Answer
@@ -50,7 +57,7 @@ monitorIndexWritten m v = record { index = v; registers = m .registers }
 -- "A locked register written while Lock is set: status 2." "Lock is bit 1: writing 1 sets it, 0 does nothing"
 abbrev pub heldWritten : Monitor → ℕ → Written
 heldWritten m v =
-    cond (lockSet m) (written 2 m)
+    cond (lockSet (m .registers)) (written 2 m)
     (cond (eqb (kindOf (m .index)) lock)
     (written 0 (stored m (slotOf (m .index)) (bitOr (register m (m .index)) (bitAnd v (maskOf (m .index))))))
     (written 0 (stored m (slotOf (m .index)) (bitAnd v (maskOf (m .index))))))

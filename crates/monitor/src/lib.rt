@@ -3,15 +3,13 @@
 use access::Answer;
 ghost use mathlib.Core.Path.{_≡_};
 ghost use mathlib.Core.Bool.{_&&_};
-ghost use Prim.Native.Nat.{_<_};
 ghost use Rattle.mask.specs.Mask.{hasBit};
 ghost use Rattle.monitor.specs.Monitor.{
   freshMonitor,
   monitorInRange,
+  monitor,
   monitorDataRead,
-  monitorIndexWritten,
   monitorDataWritten,
-  stored,
   written,
   interrupt,
   sensed,
@@ -23,12 +21,6 @@ ghost use Rattle.monitor.specs.Table.{kindOf, maskOf, resetOf, slotOf};
 pub struct Monitor {
     pub index: u8,
     pub registers: [u8; 12],
-}
-
-// The status of a write, and the monitor after it.
-pub struct Written {
-    pub status: u32,
-    pub monitor: Monitor,
 }
 
 impl Monitor {
@@ -918,67 +910,58 @@ impl Monitor {
     }
 
     // Lock is bit 1 of 40h.
-    fn lock_set(self) -> bool
-        ensures { λ r. ⌜ r ≡ lockSet self ⌝ }
+    fn lock_set(registers: &[u8; 12]) -> bool
+        ensures { λ r. ⌜ r ≡ lockSet (now (registers .entry)) ⌝ }
     {
-        mask::has(self.registers[0], Monitor::LOCK_BIT)
+        mask::has(registers[0], Monitor::LOCK_BIT)
     }
 
-    pub fn read_data(self) -> Answer
-        ensures { λ r. ⌜ r ≡ monitorDataRead self ⌝ }
+    // The registers are read, and changed, where they stand.
+    pub fn read_data(index: u8, registers: &[u8; 12]) -> Answer
+        ensures { λ r. ⌜ r ≡ monitorDataRead (monitor index (now (registers .entry))) ⌝ }
     {
-        let kind = Monitor::kind(self.index);
+        let kind = Monitor::kind(index);
         if kind == Monitor::ABSENT {
             return Answer::bare(Answer::ABSENT);
         }
         if kind == Monitor::READ_ONLY {
-            return Answer::done(mask::wide8(Monitor::reset(self.index)));
+            return Answer::done(mask::wide8(Monitor::reset(index)));
         }
-        let slot = Monitor::slot(self.index);
-        Answer::done(mask::wide8(self.registers[slot]))
+        let slot = Monitor::slot(index);
+        Answer::done(mask::wide8(registers[slot]))
     }
 
-    pub fn write_index(mut self, value: u8) -> Self
-        ensures { λ r. ⌜ r ≡ monitorIndexWritten self value ⌝ }
+    // The status of a write.
+    pub fn write_data(index: u8, registers: &mut [u8; 12], value: u8) -> u32
+        ensures { λ r. ⌜ written r (monitor index (now (registers .exit))) ≡ monitorDataWritten (monitor index (now (registers .entry))) value ⌝ }
     {
-        self.index = value;
-        self
-    }
-
-    pub fn write_data(self, value: u8) -> Written
-        ensures { λ r. ⌜ r ≡ monitorDataWritten self value ⌝ }
-    {
-        let kind = Monitor::kind(self.index);
+        let kind = Monitor::kind(index);
         if kind == Monitor::ABSENT {
-            return wrote(Answer::ABSENT, self);
+            return Answer::ABSENT;
         }
         if kind == Monitor::READ_ONLY {
-            return wrote(Answer::BLOCKED, self);
+            return Answer::BLOCKED;
         }
-        let slot = Monitor::slot(self.index);
-        let old = self.registers[slot];
+        let slot = Monitor::slot(index);
+        let old = registers[slot];
         if kind == Monitor::CLEARED {
-            return wrote(Answer::DONE, self.stored(slot, mask::cleared8(old, value)));
+            registers[slot] = mask::cleared8(old, value);
+            return Answer::DONE;
         }
-        let kept = value & Monitor::mask(self.index);
+        let kept = value & Monitor::mask(index);
         if kind == Monitor::FREE {
-            return wrote(Answer::DONE, self.stored(slot, kept));
+            registers[slot] = kept;
+            return Answer::DONE;
         }
-        if self.lock_set() {
-            return wrote(Answer::BLOCKED, self);
+        if Monitor::lock_set(registers) {
+            return Answer::BLOCKED;
         }
         if kind == Monitor::LOCK {
-            return wrote(Answer::DONE, self.stored(slot, old | kept));
+            registers[slot] = old | kept;
+            return Answer::DONE;
         }
-        wrote(Answer::DONE, self.stored(slot, kept))
-    }
-
-    fn stored(mut self, slot: usize, value: u8) -> Self
-        requires { ⌜ slot < 12 ⌝ }
-        ensures { λ r. ⌜ r ≡ stored self slot value ⌝ }
-    {
-        self.registers[slot] = value;
-        self
+        registers[slot] = kept;
+        Answer::DONE
     }
 
     // A sensor sets its bits in 83h and clears none.
@@ -1015,10 +998,4 @@ fn both(enable: u8, enable_bit: u8, status: u8, status_bit: u8) -> bool
         return mask::has(status, status_bit);
     }
     false
-}
-
-fn wrote(status: u32, monitor: Monitor) -> Written
-    ensures { λ r. ⌜ r ≡ written status monitor ⌝ }
-{
-    Written { status, monitor }
 }

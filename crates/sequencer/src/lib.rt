@@ -289,17 +289,16 @@ fn run_words(
                 chip.acpi = next;
                 answer = r.answer;
             } else if taker == Device::MONITOR {
-                let monitor = chip.monitor;
-                let r = device::reach::monitor_reached(config, monitor, access);
-                let next = r.monitor;
-                chip.monitor = next;
+                let r = device::reach::monitor_reached(
+                    config,
+                    chip.monitor.index,
+                    &mut chip.monitor.registers,
+                    access,
+                );
+                chip.monitor.index = r.index;
                 answer = r.answer;
             } else if taker == Device::KEY {
-                let key = chip.key;
-                let r = device::reach::key_reached(config, key, access);
-                let next = r.key;
-                chip.key = next;
-                answer = r.answer;
+                answer = device::reach::key_reached(config, &mut chip.key.bytes, access);
             }
             let acpi = chip.acpi;
             if acpi.pending() {

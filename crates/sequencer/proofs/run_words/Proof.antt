@@ -230,7 +230,7 @@ reaches c =
     ⊎-elim (λ w. by-config _ _ _ (t ∙ w .0 .taken) (w .1 .ensures) ∙ same-reach (w .5) (w .4))
     (⊎-elim (λ w. by-acpi _ _ _ (t ∙ w .1 .taken) (w .3 .ensures) ∙ same-reach (w .7) (w .6))
     (⊎-elim (λ w. by-monitor _ _ _ (t ∙ w .2 .taken) (w .4 .ensures) ∙ same-reach (w .8) (w .7))
-    (⊎-elim (λ w. by-key _ _ _ (t ∙ w .3 .taken) (w .5 .ensures) ∙ same-reach (w .9) (w .8))
+    (⊎-elim (λ w. by-key _ _ _ (t ∙ w .3 .taken) (w .5 .ensures) ∙ same-reach (w .7) (w .6))
     (λ w. by-nobody _ _ (λ e. w .0 .left (sym t ∙ e)) (λ e. w .1 .left (sym t ∙ e)) (λ e. w .2 .left (sym t ∙ e)) (λ e. w .3 .left (sym t ∙ e))
     ∙ same-reach (w .5 ∙ c .before .bare .ensures) (w .4))))) (c .if7 .came)
 

@@ -25,44 +25,36 @@ low-byte-requires c κs = search needs
 write-requires : tie.Need-write-requires
 write-requires c κs = omega (
   arith,
-  c .before .before .before .key-base .ensures,
-  key-claimed (c .before .before .before .before .args .config) (c .before .before .before .before .args .access .port) (c .before .before .before .before .pre),
+  c .before .before .before .before .key-base .ensures,
+  key-claimed (c .before .before .before .before .before .args .config) (c .before .before .before .before .before .args .access .port) (c .before .before .before .before .before .pre),
 )
 
 bare-requires : tie.Need-bare-requires
 bare-requires c κs = search needs
 
-key-answers-requires : tie.Need-key-answers-requires
-key-answers-requires c κs = search needs
-
 returns : tie.Need-returns
 unfolding keyReached
 returns c = simp (
-  c .before .before .before .before .before .before .before .key-base .ensures,
-  c .before .before .before .before .before .if1 .taken,
-  c .before .before .before .before .low-byte .ensures,
-  c .before .before .before .write .ensures,
-  c .before .bare .ensures,
-  c .key-answers .ensures,
+  ← (c .before .before .before .before .before .before .key-base .ensures),
+  c .before .before .before .before .if1 .taken,
+  ← (c .before .before .low-byte .ensures),
+  ← (c .before .write .ensures),
+  c .bare .ensures,
 )
 
 read-requires : tie.Need-read-requires
 read-requires c κs = omega (
   arith,
-  c .before .before .key-base .ensures,
-  key-claimed (c .before .before .before .args .config) (c .before .before .before .args .access .port) (c .before .before .before .pre),
+  c .before .before .before .key-base .ensures,
+  key-claimed (c .before .before .before .before .args .config) (c .before .before .before .before .args .access .port) (c .before .before .before .before .pre),
 )
-
-key-answers-requires-2 : tie.Need-key-answers-requires-2
-key-answers-requires-2 c κs = search needs
 
 returns-2 : tie.Need-returns-2
 unfolding keyReached
 returns-2 c = simp (
-  c .before .before .before .before .key-base .ensures,
+  ← (c .before .before .before .before .key-base .ensures),
   c .before .before .if1 .left,
-  c .before .read .ensures,
-  c .key-answers2 .ensures,
+  c .read .ensures,
 )
 
 pub key-reached-spec : {M : Type 1} → statement M
@@ -75,8 +67,6 @@ key-reached-spec =
     low-byte-requires
     write-requires
     bare-requires
-    key-answers-requires
     returns
     read-requires
-    key-answers-requires-2
     returns-2)

@@ -16,9 +16,6 @@ runtime-base-requires c κs = search needs
 add-if1 : tie.Need-add-if1
 add-if1 c = omega (arith, c .runtime-base .ensures, runtime-at-most (c .before .before .args .config))
 
-write-index-requires : tie.Need-write-index-requires
-write-index-requires c κs = search needs
-
 bare-requires : tie.Need-bare-requires
 bare-requires c κs = search needs
 
@@ -28,13 +25,13 @@ monitor-answers-requires c κs = search needs
 returns : tie.Need-returns
 unfolding monitorReached
 returns c = simp (
-  c .before .before .before .before .before .before .before .low-byte .ensures,
-  ← (c .before .before .before .before .before .before .runtime-base .ensures),
-  eq-eqb _ _ (c .before .before .before .before .if1 .taken),
-  c .before .before .before .if2 .taken,
-  c .before .before .write-index .ensures,
+  c .before .before .before .before .before .before .low-byte .ensures,
+  ← (c .before .before .before .before .before .runtime-base .ensures),
+  eq-eqb _ _ (c .before .before .before .if1 .taken),
+  c .before .before .if2 .taken,
   c .before .bare .ensures,
-  c .monitor-answers .ensures,
+  c .monitor-answers .ensures .0,
+  c .monitor-answers .ensures .1,
 )
 
 wide8-requires : tie.Need-wide8-requires
@@ -54,7 +51,8 @@ returns-2 c = simp (
   c .before .before .before .if2 .left,
   c .before .before .wide8 .ensures,
   c .before .done .ensures,
-  c .monitor-answers2 .ensures,
+  c .monitor-answers2 .ensures .0,
+  c .monitor-answers2 .ensures .1,
 )
 
 write-data-requires : tie.Need-write-data-requires
@@ -69,13 +67,14 @@ monitor-answers-requires-3 c κs = search needs
 returns-3 : tie.Need-returns-3
 unfolding monitorReached
 returns-3 c = simp (
-  c .before .before .before .before .before .before .before .before .low-byte .ensures,
   ← (c .before .before .before .before .before .before .before .runtime-base .ensures),
   ne-eqb _ _ (c .before .before .before .before .before .if1 .left),
   c .before .before .before .before .if3 .taken,
-  c .before .before .before .write-data .ensures,
+  ← (c .before .before .before .before .before .before .before .before .low-byte .ensures),
+  ← (c .before .before .write-data .ensures),
   c .before .bare2 .ensures,
-  c .monitor-answers3 .ensures,
+  c .monitor-answers3 .ensures .0,
+  c .monitor-answers3 .ensures .1,
 )
 
 read-data-requires : tie.Need-read-data-requires
@@ -87,11 +86,12 @@ monitor-answers-requires-4 c κs = search needs
 returns-4 : tie.Need-returns-4
 unfolding monitorReached
 returns-4 c = simp (
-  ← (c .before .before .before .before .before .runtime-base .ensures),
-  ne-eqb _ _ (c .before .before .before .if1 .left),
-  c .before .before .if3 .left,
+  ← (c .before .before .before .before .before .before .runtime-base .ensures),
+  ne-eqb _ _ (c .before .before .before .before .if1 .left),
+  c .before .before .before .if3 .left,
   c .before .read-data .ensures,
-  c .monitor-answers4 .ensures,
+  c .monitor-answers4 .ensures .0,
+  c .monitor-answers4 .ensures .1,
 )
 
 pub monitor-reached-spec : {M : Type 1} → statement M
@@ -101,7 +101,6 @@ monitor-reached-spec =
     low-byte-requires
     runtime-base-requires
     add-if1
-    write-index-requires
     bare-requires
     monitor-answers-requires
     returns

@@ -1,8 +1,8 @@
 -- `monitor::Monitor::read_data` meets its contract. Assumes nothing.
 use borrow.Author.Tests.{eq-eqb, ne-eqb}
+use Rattle.monitor.proofs.Tables.{slot-below}
 use Rattle.monitor.specs.Monitor.{monitorDataRead}
 use borrow.Author.Needs.{needs}
-use Rattle.monitor.proofs.Tables.{slot-below}
 use Rattle.monitor.proofs.Monitor.read_data.Statement.{statement}
 use Rattle.monitor.proofs.Monitor.read_data.Tie as tie
 

@@ -1,8 +1,6 @@
 -- `config::key::Key::read` meets its contract. Assumes nothing.
 use borrow.Author.Tests.{eq-eqb, ne-eqb}
 use Rattle.config.specs.Key.{keyRead}
-use Rattle.config.specs.Config.{registerRead}
-use Rattle.config.specs.Config.{registerWritten}
 use borrow.Author.Needs.{needs}
 use Rattle.config.proofs.key.Key.read.Statement.{statement}
 use Rattle.config.proofs.key.Key.read.Tie as tie
@@ -17,7 +15,7 @@ done-requires : tie.Need-done-requires
 done-requires c κs = search needs
 
 returns : tie.Need-returns
-unfolding keyRead registerRead registerWritten
+unfolding keyRead
 returns c = simp (
   eq-eqb _ _ (c .before .before .before .if1 .taken),
   c .before .wide8 .ensures,
@@ -28,7 +26,7 @@ bare-requires : tie.Need-bare-requires
 bare-requires c κs = search needs
 
 returns-2 : tie.Need-returns-2
-unfolding keyRead registerRead registerWritten
+unfolding keyRead
 returns-2 c = simp (
   ne-eqb _ _ (c .before .if1 .left),
   c .bare .ensures,
@@ -37,10 +35,4 @@ returns-2 c = simp (
 pub read-spec : {M : Type 1} → statement M
 read-spec =
     tie.close
-    (tie.spec
-    element-copy-out-wide8
-    wide8-requires
-    done-requires
-    returns
-    bare-requires
-    returns-2)
+    (tie.spec element-copy-out-wide8 wide8-requires done-requires returns bare-requires returns-2)
