@@ -55,6 +55,7 @@ use Rattle.device.specs.Device.{
   withMonitor,
 }
 use Rattle.device.specs.Event.{
+  acpiMoved,
   happened,
   kindOf,
   moved,
@@ -179,22 +180,23 @@ module _ (d : Device) (h : deviceInRange d ≡ true) where
       (branch Kept (eqb operand 1) (together (vccReset d) fresh-config fresh-monitor acpi-in-range)
       (branch Kept (eqb operand 2) (together (vtrReset d) fresh-config fresh-monitor (reset-acpi (d .acpi))) fresh-device))
 
-  kept-moved : (kind operand : ℕ) → Kept (moved d kind operand)
-  unfolding moved
-  kept-moved kind operand =
-      branch Kept (eqb kind 1) (kept-acpi (ticked (d .acpi) operand) (acpi-ticked (d .acpi) acpi-in-range operand))
-      (branch Kept (eqb kind 2)
-      (kept-acpi (pinned (d .acpi) (operand % 8) (hasBit 0x08 operand))
-      (acpi-pinned (d .acpi) acpi-in-range (operand % 8) (hasBit 0x08 operand)))
-      (branch Kept (eqb kind 5)
-      (kept-monitor (sensed (d .monitor) (operand % 4))
-      (monitor-sensed (d .monitor) monitor-in-range (operand % 4) (rw (← (and-mask operand 2)) (within-masked 0x03 operand))))
-      (branch Kept (eqb kind 6) (kept-reset operand)
-      (kept-acpi (raised (d .acpi) (statusBit kind))
+  acpi-moved : (kind operand : ℕ) → acpiInRange (acpiMoved (d .acpi) kind operand) ≡ true
+  acpi-moved kind operand =
+      branch (λ (a : Acpi). acpiInRange a ≡ true) (eqb kind 1) (acpi-ticked (d .acpi) acpi-in-range operand)
+      (branch (λ (a : Acpi). acpiInRange a ≡ true) (eqb kind 2)
+      (acpi-pinned (d .acpi) acpi-in-range (operand % 8) (hasBit 0x08 operand))
       (kept-raised (d .acpi) acpi-in-range (statusBit kind)
       (branch (λ (b : ℕ). within 0x8F31 b ≡ true) (eqb kind 3) refl
       (branch (λ (b : ℕ). within 0x8F31 b ≡ true) (eqb kind 4) refl
-      (branch (λ (b : ℕ). within 0x8F31 b ≡ true) (eqb kind 7) refl refl))))))))
+      (branch (λ (b : ℕ). within 0x8F31 b ≡ true) (eqb kind 7) refl refl)))))
+
+  kept-moved : (kind operand : ℕ) → Kept (moved d kind operand)
+  unfolding moved
+  kept-moved kind operand =
+      branch Kept (eqb kind 5)
+      (kept-monitor (sensed (d .monitor) (operand % 4))
+      (monitor-sensed (d .monitor) monitor-in-range (operand % 4) (rw (← (and-mask operand 2)) (within-masked 0x03 operand))))
+      (branch Kept (eqb kind 6) (kept-reset operand) (kept-acpi (acpiMoved (d .acpi) kind operand) (acpi-moved kind operand)))
 
 pub accessed-in-range : (d : Device) (x : Access) → deviceInRange d ≡ true → deviceInRange (accessed d x .device) ≡ true
 unfolding accessed

@@ -1,15 +1,21 @@
--- What an access reaches, told by the block that takes it, and when there is nothing to settle: one law for each way through the
--- code, for a lone access and a run alike. Assumes nothing.
-use mathlib.Core.Path.{_≡_, ap}
-use mathlib.Core.Bool.{false}
+-- What an access reaches, told by the block that takes it; an event that moves the ACPI block alone; and when there is nothing to
+-- settle: one law for each way through the code, for a lone call and a run alike. Assumes nothing.
+use Prim.Native.Nat.{ℕ, _%_}
+use mathlib.Core.Path.{_≡_, ap, refl}
+use mathlib.Core.Bool.{Bool, true, false, cond, not, _||_}
+use native.Mathlib.Omega.{arith}
 use borrow.Author.Tests.{ne-eqb}
+use lib.Dec.{eqb}
 use Rattle.access.specs.Status.{bare}
 use Rattle.access.specs.declared.Access.{Access}
 use Rattle.access.specs.declared.Answer.{Answer}
 use Rattle.acpi.proofs.Settle.{settled-idle}
-use Rattle.acpi.specs.Settle.{pending}
+use Rattle.acpi.specs.Settle.{pending, settled}
+use Rattle.acpi.specs.declared.Acpi.{Acpi}
 use Rattle.acpi.specs.declared.Read.{Read}
-use Rattle.device.specs.Device.{settledDevice, withAcpi}
+use Rattle.monitor.specs.Monitor.{sensed}
+use Rattle.device.specs.Device.{settledDevice, withAcpi, withMonitor}
+use Rattle.device.specs.Event.{acpiMoved, happened, kindOf, moved, movesAcpi, operandOf, resetBy}
 use Rattle.device.specs.Owner.{taker}
 use Rattle.device.specs.Reach.{
   KeyReached,
@@ -55,6 +61,23 @@ module _ (d : Device) (x : Access) where
       → (taker (d .config) x ≡ 4 → ⊥) → reached d x ≡ reach (bare 1) d
   unfolding reached
   by-nobody a b c e = rw (ne-eqb _ 1 a, ne-eqb _ 2 b, ne-eqb _ 3 c, ne-eqb _ 4 e)
+
+-- an event that moves the ACPI block alone
+pub by-acpi-event :
+    (d : Device) (number : ℕ) (a : Acpi) → movesAcpi number ≡ true
+    → a ≡ settled (acpiMoved (d .acpi) (kindOf number) (operandOf number)) → happened d number ≡ withAcpi d a
+unfolding happened moved
+by-acpi-event d number a h e = rw e (pick (eqb (kindOf number) 5) (eqb (kindOf number) 6) h)
+  where
+    next : Device
+    next = withAcpi d (acpiMoved (d .acpi) (kindOf number) (operandOf number))
+
+    pick : (s r : Bool) → not (s || r) ≡ true
+        → settledDevice (cond s (withMonitor d (sensed (d .monitor) (operandOf number % 4))) (cond r (resetBy d (operandOf number)) next))
+        ≡ settledDevice next
+    pick false false q = refl
+    pick false true q = let z : _≡_ {A = ℕ} 0 1 = cc in absurd (omega arith)
+    pick true r q = let z : _≡_ {A = ℕ} 0 1 = cc in absurd (omega arith)
 
 pub nothing-settles : (d : Device) → pending (d .acpi) ≡ false → settledDevice d ≡ d
 nothing-settles d h = ap (withAcpi d) (settled-idle (d .acpi) h)

@@ -1,9 +1,10 @@
 -- Document 01, "Outside events": "32-bit numbers, kind in the top byte, operand below".
 use Prim.Native.Nat.{ℕ, _/_, _%_, _^_}
-use mathlib.Core.Bool.{Bool, false, cond, _||_}
+use mathlib.Core.Bool.{Bool, false, cond, not, _||_}
 use lib.Dec.{eqb, leb}
 use Rattle.acpi.specs.Block.{raised, resetAcpi}
 use Rattle.acpi.specs.Happen.{pinned, ticked}
+use Rattle.acpi.specs.declared.Acpi.{Acpi}
 use Rattle.config.specs.Config.{freshConfig}
 use Rattle.mask.specs.Mask.{hasBit}
 use Rattle.monitor.specs.Monitor.{freshMonitor, sensed}
@@ -48,13 +49,20 @@ resetBy d operand =
 abbrev pub statusBit : ℕ → ℕ
 statusBit kind = cond (eqb kind 3) 0x0400 (cond (eqb kind 4) 0x0010 (cond (eqb kind 7) 0x0800 0))
 
--- what an event does, before the settling. "2 pin: bits 2 to 0 pin, bit 3 new level"
+-- ticks, a pin ("bits 2 to 0 pin, bit 3 new level") and the kinds that set PM1a_STS move the ACPI block alone
+abbrev pub acpiMoved : Acpi → ℕ → ℕ → Acpi
+acpiMoved a kind operand =
+    cond (eqb kind 1) (ticked a operand)
+    (cond (eqb kind 2) (pinned a (operand % 8) (hasBit 0x08 operand)) (raised a (statusBit kind)))
+
+-- what an event does, before the settling
 unfoldable pub moved : Device → ℕ → ℕ → Device
 moved d kind operand =
-    cond (eqb kind 1) (withAcpi d (ticked (d .acpi) operand))
-    (cond (eqb kind 2) (withAcpi d (pinned (d .acpi) (operand % 8) (hasBit 0x08 operand)))
-    (cond (eqb kind 5) (withMonitor d (sensed (d .monitor) (operand % 4)))
-    (cond (eqb kind 6) (resetBy d operand) (withAcpi d (raised (d .acpi) (statusBit kind))))))
+    cond (eqb kind 5) (withMonitor d (sensed (d .monitor) (operand % 4)))
+    (cond (eqb kind 6) (resetBy d operand) (withAcpi d (acpiMoved (d .acpi) kind operand)))
+
+abbrev pub movesAcpi : ℕ → Bool
+movesAcpi number = not (eqb (kindOf number) 5 || eqb (kindOf number) 6)
 
 unfoldable pub happened : Device → ℕ → Device
 happened d number = settledDevice (moved d (kindOf number) (operandOf number))

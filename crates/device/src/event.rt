@@ -1,8 +1,21 @@
 // Outside events: document 01, "Outside events". A 32-bit number, its kind in the top byte and its operand below.
+use acpi::Acpi;
 use config::Config;
 use monitor::Monitor;
 ghost use mathlib.Core.Path.{_≡_};
-ghost use Rattle.device.specs.Event.{isOperand, isEvent, resetBy, statusBit, moved, happened};
+ghost use Rattle.acpi.specs.Settle.{settled};
+ghost use Rattle.device.specs.Event.{
+  isOperand,
+  isEvent,
+  kindOf,
+  operandOf,
+  resetBy,
+  statusBit,
+  acpiMoved,
+  movesAcpi,
+  moved,
+  happened,
+};
 use crate::Device;
 
 pub const TICKS: u32 = 1;
@@ -46,15 +59,46 @@ fn status_bit(kind: u32) -> u16
     ensures { λ r. ⌜ r ≡ statusBit kind ⌝ }
 {
     if kind == RTC_ALARM {
-        return acpi::Acpi::RTC_STS;
+        return Acpi::RTC_STS;
     }
     if kind == BUS_MASTER {
-        return acpi::Acpi::BM_STS;
+        return Acpi::BM_STS;
     }
     if kind == BUTTON {
-        return acpi::Acpi::BUTTON_STS;
+        return Acpi::BUTTON_STS;
     }
     0
+}
+
+// Ticks, a pin and the kinds that set PM1a_STS move the ACPI block alone.
+fn acpi_moved(acpi: Acpi, kind: u32, operand: u32) -> Acpi
+    ensures { λ r. ⌜ r ≡ acpiMoved acpi kind operand ⌝ }
+{
+    if kind == TICKS {
+        return acpi.tick(operand);
+    }
+    if kind == PIN {
+        return acpi.pin((operand % 8) as usize, operand & 0x08 != 0);
+    }
+    acpi.raise(status_bit(kind))
+}
+
+pub fn moves_acpi(number: u32) -> bool
+    ensures { λ r. ⌜ r ≡ movesAcpi number ⌝ }
+{
+    let kind = number / KIND;
+    if kind == SENSOR {
+        return false;
+    }
+    kind != RESET
+}
+
+// The ACPI block after such an event and its settling.
+pub fn acpi_happened(acpi: Acpi, number: u32) -> Acpi
+    ensures { λ r. ⌜ r ≡ settled (acpiMoved acpi (kindOf number) (operandOf number)) ⌝ }
+{
+    let next = acpi_moved(acpi, number / KIND, number % KIND);
+    next.settled()
 }
 
 impl Device {
@@ -84,17 +128,6 @@ impl Device {
     fn moved(mut self, kind: u32, operand: u32) -> Self
         ensures { λ r. ⌜ r ≡ moved self kind operand ⌝ }
     {
-        let acpi = self.acpi;
-        if kind == TICKS {
-            let next = acpi.tick(operand);
-            self.acpi = next;
-            return self;
-        }
-        if kind == PIN {
-            let next = acpi.pin((operand % 8) as usize, operand & 0x08 != 0);
-            self.acpi = next;
-            return self;
-        }
         if kind == SENSOR {
             let monitor = self.monitor;
             let next = monitor.sense((operand % 4) as u8);
@@ -104,7 +137,8 @@ impl Device {
         if kind == RESET {
             return self.reset_by(operand);
         }
-        let next = acpi.raise(status_bit(kind));
+        let acpi = self.acpi;
+        let next = acpi_moved(acpi, kind, operand);
         self.acpi = next;
         self
     }

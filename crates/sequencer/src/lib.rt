@@ -229,7 +229,8 @@ fn counted(steps: u32) -> u32
     steps + 1
 }
 
-// Runs the words of an image until the run ends.
+// Runs the words of an image until the run ends. The device is changed in place, block by block: a function would take it by value
+// and hand it back, and a copy of it costs more than a word.
 fn run_words(
     image: &[u8],
     device: Device,
@@ -271,7 +272,14 @@ fn run_words(
         } else {
             let taken = x.taken;
             if taken < events.len() {
-                chip = chip.happened(events[taken]);
+                let event = events[taken];
+                if device::event::moves_acpi(event) {
+                    let acpi = chip.acpi;
+                    let moved = device::event::acpi_happened(acpi, event);
+                    chip.acpi = moved;
+                } else {
+                    chip = chip.happened(event);
+                }
             }
             let access = running::access_of(word);
             let config = chip.config;

@@ -7,7 +7,7 @@ use native.Mathlib.Omega.{arith}
 use borrow.Author.Needs.{needs, scaled-fits}
 use lib.ListN.{drop, length}
 use Rattle.device.proofs.Claims.{acpi-takes, key-takes}
-use Rattle.device.proofs.Taken.{by-acpi, by-config, by-key, by-monitor, by-nobody, gives-accessed, nothing-settles, same-reach}
+use Rattle.device.proofs.Taken.{by-acpi, by-acpi-event, by-config, by-key, by-monitor, by-nobody, gives-accessed, nothing-settles, same-reach}
 use Rattle.device.proofs.Ticks.{delays}
 use Rattle.device.specs.Device.{settledDevice, withAcpi}
 use Rattle.device.specs.Reach.{accessed, reach, reached}
@@ -159,11 +159,17 @@ loop-again-2 c = λ s h q.
     (delays _ _ (can-delay _ _ (c .before .before .before .before .before .before .before .before .before .before .before .before .before .before .before .before .before .before .loop .x) (c .before .before .before .before .before .before .before .before .before .before .before .before .before .read .result) (sym (c .before .before .before .before .before .before .before .before .before .before .before .before .fault .ensures) ∙ c .before .before .before .before .before .before .before .before .before .before .before .if2 .left) (c .before .before .before .before .before .if5 .taken)) (c .before .before .before .tick .ensures) (c .before .before .settled .ensures)) _ _)
     refl)
 
-mul-happened : tie.Need-mul-happened Inv-loop μ-loop
-mul-happened c = scaled-fits _ _ 4 (c .if6 .taken) (c .before .before .before .before .before .before .before .before .before .before .before .before .before .before .before .before .before .before .before .before .good .1 .1 .1 .0 .1)
+mul-event : tie.Need-mul-event Inv-loop μ-loop
+mul-event c = scaled-fits _ _ 4 (c .if6 .taken) (c .before .before .before .before .before .before .before .before .before .before .before .before .before .before .before .before .before .before .before .before .good .1 .1 .1 .0 .1)
 
-shared-slice-read-happened : tie.Need-shared-slice-read-happened Inv-loop μ-loop
-shared-slice-read-happened c = search needs
+shared-slice-read-event : tie.Need-shared-slice-read-event Inv-loop μ-loop
+shared-slice-read-event c = search needs
+
+moves-acpi-requires : tie.Need-moves-acpi-requires Inv-loop μ-loop
+moves-acpi-requires c κs = search needs
+
+acpi-happened-requires : tie.Need-acpi-happened-requires Inv-loop μ-loop
+acpi-happened-requires c κs = search needs
 
 happened-requires : tie.Need-happened-requires Inv-loop μ-loop
 happened-requires c κs = search needs
@@ -181,13 +187,13 @@ config-reached-requires : tie.Need-config-reached-requires Inv-loop μ-loop
 config-reached-requires c κs = search needs
 
 acpi-reached-requires : tie.Need-acpi-reached-requires Inv-loop μ-loop
-acpi-reached-requires c κs = acpi-takes _ _ (sym (c .before .before .before .before .taker .ensures) ∙ c .before .if8 .taken)
+acpi-reached-requires c κs = acpi-takes _ _ (sym (c .before .before .before .before .taker .ensures) ∙ c .before .if9 .taken)
 
 monitor-reached-requires : tie.Need-monitor-reached-requires Inv-loop μ-loop
 monitor-reached-requires c κs = search needs
 
 key-reached-requires : tie.Need-key-reached-requires Inv-loop μ-loop
-key-reached-requires c κs = key-takes _ _ (sym (c .before .before .before .before .before .before .taker .ensures) ∙ c .before .if10 .taken)
+key-reached-requires c κs = key-takes _ _ (sym (c .before .before .before .before .before .before .taker .ensures) ∙ c .before .if11 .taken)
 
 pending-requires : tie.Need-pending-requires Inv-loop μ-loop
 pending-requires c κs = search needs
@@ -218,13 +224,15 @@ arrives :
     (c : tie.Joined6 Inv-loop μ-loop)
     → c .if6 .chip ≡ nextApplied (c .before .before .before .before .before .before .before .before .before .before .before .before .before .before .loop .chip) (drop (c .before .before .before .before .before .before .before .before .before .before .before .before .before .before .loop .x .taken) (c .before .before .before .before .before .before .before .before .before .before .before .before .before .before .before .before .before .before .before .before .args .events .now))
 arrives c =
-    ⊎-elim (λ w. w .3 ∙ w .2 .ensures ∙ sym (next-there _ _ _ (w .0 .taken)))
-    (λ w. w .1 ∙ sym (next-none _ _ _ (w .0 .left))) (c .if6 .came)
+    ⊎-elim
+    (λ w. w .6 ∙ sym (by-acpi-event _ _ _ (sym (w .2 .ensures) ∙ w .3 .taken) (w .5 .ensures)) ∙ sym (next-there _ _ _ (w .0 .taken)))
+    (⊎-elim (λ w. w .5 ∙ w .4 .ensures ∙ sym (next-there _ _ _ (w .0 .taken)))
+    (λ w. w .1 ∙ sym (next-none _ _ _ (w .0 .left)))) (c .if6 .came)
 
 -- the block that takes the access answers, and only it is replaced
 reaches :
-    (c : tie.Joined7 Inv-loop μ-loop)
-    → reached (c .before .before .before .before .before .if6 .chip) (c .before .before .before .before .access-of .result) ≡ reach (c .if7 .answer) (c .if7 .chip)
+    (c : tie.Joined8 Inv-loop μ-loop)
+    → reached (c .before .before .before .before .before .if6 .chip) (c .before .before .before .before .access-of .result) ≡ reach (c .if8 .answer) (c .if8 .chip)
 reaches c =
     let t = sym (c .before .before .taker .ensures) in
     ⊎-elim (λ w. by-config _ _ _ (t ∙ w .0 .taken) (w .1 .ensures) ∙ same-reach (w .5) (w .4))
@@ -232,19 +240,19 @@ reaches c =
     (⊎-elim (λ w. by-monitor _ _ _ (t ∙ w .2 .taken) (w .4 .ensures) ∙ same-reach (w .8) (w .7))
     (⊎-elim (λ w. by-key _ _ _ (t ∙ w .3 .taken) (w .5 .ensures) ∙ same-reach (w .7) (w .6))
     (λ w. by-nobody _ _ (λ e. w .0 .left (sym t ∙ e)) (λ e. w .1 .left (sym t ∙ e)) (λ e. w .2 .left (sym t ∙ e)) (λ e. w .3 .left (sym t ∙ e))
-    ∙ same-reach (w .5 ∙ c .before .bare .ensures) (w .4))))) (c .if7 .came)
+    ∙ same-reach (w .5 ∙ c .before .bare .ensures) (w .4))))) (c .if8 .came)
 
-settles : (c : tie.Joined11 Inv-loop μ-loop) → c .if11 .chip ≡ settledDevice (c .before .before .before .if7 .chip)
+settles : (c : tie.Joined12 Inv-loop μ-loop) → c .if12 .chip ≡ settledDevice (c .before .before .before .if8 .chip)
 settles c =
-    ⊎-elim (λ w. w .2 ∙ ap (withAcpi (c .before .before .before .if7 .chip)) (w .1 .ensures))
-    (λ w. w .1 ∙ sym (nothing-settles _ (sym (c .before .pending .ensures) ∙ w .0 .left))) (c .if11 .came)
+    ⊎-elim (λ w. w .2 ∙ ap (withAcpi (c .before .before .before .if8 .chip)) (w .1 .ensures))
+    (λ w. w .1 ∙ sym (nothing-settles _ (sym (c .before .pending .ensures) ∙ w .0 .left))) (c .if12 .came)
 
 loop-again-3 : tie.Need-loop-again-3 Inv-loop μ-loop
 loop-again-3 c = λ s h q.
     rw (c .counted3 .ensures)
     (further _ _ (c .before .before .before .before .before .before .before .before .before .before .before .before .before .before .before .before .before .before .before .before .before .before .before .before .before .before .before .before .loop .inv s h q) (c .before .before .before .before .before .before .before .before .before .before .before .before .before .before .before .before .before .before .before .before .before .before .before .before .before .before .before .loop-test .taken)
     (looked (c .before .before .before .before .before .before .before .before .before .before .before .before .before .before .before .before .before .before .before .before .before .before .before .before .before .if1 .left) (c .before .before .before .before .before .before .before .before .before .before .before .before .before .before .before .before .before .before .before .before .before .before .before .read .ensures) (c .before .before .before .before .before .before .before .before .before .before .before .before .before .before .before .before .before .before .before .before .before .before .before .before .index .ensures) (c .before .before .before .before .before .before .before .before .before .before .before .before .before .before .before .before .before .before .before .before .before .before .fault .ensures)) (c .before .before .before .before .before .before .before .before .before .before .before .before .before .before .before .before .before .before .before .before .before .if2 .left) (c .before .before .before .before .before .before .before .before .before .before .before .before .before .before .before .before .before .before .before .if3 .left)
-    (c .before .before .before .answered2 .ensures _ (c .before .before .before .before .before .before .before .before .before .before .before .before .before .before .if6 .chip) _ (reach (c .before .before .before .before .before .answered .result) (c .before .before .before .before .before .before .if11 .chip))
+    (c .before .before .before .answered2 .ensures _ (c .before .before .before .before .before .before .before .before .before .before .before .before .before .before .if6 .chip) _ (reach (c .before .before .before .before .before .answered .result) (c .before .before .before .before .before .before .if12 .chip))
     (arrives (c .before .before .before .before .before .before .before .before .before .before .before .before .before .before))
     (gives-accessed _ _ _ _ _ _ (reaches (c .before .before .before .before .before .before .before .before .before)) (c .before .before .before .before .before .answered .ensures) (settles (c .before .before .before .before .before .before)) ∙ ap (accessed (c .before .before .before .before .before .before .before .before .before .before .before .before .before .before .if6 .chip)) (c .before .before .before .before .before .before .before .before .before .before .before .before .before .access-of .ensures)) refl)
     (c .before .before .before .answered2 .kept .1 .1 .1 .1 .0))
@@ -301,8 +309,10 @@ run-words-spec =
     counted-requires-2
     loop-less-2
     loop-again-2
-    mul-happened
-    shared-slice-read-happened
+    mul-event
+    shared-slice-read-event
+    moves-acpi-requires
+    acpi-happened-requires
     happened-requires
     access-of-requires
     taker-requires
