@@ -3,7 +3,7 @@
 use Prim.Native.Nat.{ℕ, _-_}
 use mathlib.Core.Path.{_≡_, refl}
 use lib.Dec.{eqb, leb}
-use Rattle.mask.proofs.Branch.{branch}
+use Rattle.mask.proofs.Branch.{branch, done}
 use Rattle.mask.specs.Mask.{hasBit}
 use Rattle.acpi.specs.Block.{isMapIndex, isSetupIndex}
 use Rattle.acpi.specs.Map.{legalMap}
@@ -16,9 +16,6 @@ use Rattle.acpi.specs.declared.Written.{Written}
 -- done, or nothing is changed
 abbrev pub Kept : Acpi → Written → Type 0
 Kept a w = (w .status ≡ 0 → ⊥) → w .acpi ≡ a
-
-done : {A : Type 0} → (_≡_ {A = ℕ} 0 0 → ⊥) → A
-done n = absurd (n refl)
 
 command-kept : (a : Acpi) (v : ℕ) → Kept a (commandWritten a v)
 unfolding commandWritten

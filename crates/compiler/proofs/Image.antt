@@ -7,6 +7,7 @@ use native.Mathlib.Omega.{arith}
 use borrow.Rule.Slice.PartMut.{putMid}
 use lib.ListN.{length, take, drop, length-append, length-drop}
 use lib.Seq.{drop-drop, drop-length, take-all, take-at, drop-at}
+use Rattle.record.proofs.ReadBack.{twelve-bytes}
 use Rattle.record.specs.Record.{bytesOf}
 use Rattle.record.specs.declared.Record.{Record}
 use Rattle.compiler.specs.Words.{imageBytes}
@@ -21,15 +22,11 @@ put-part xs ys bs i n e h =
     ap (λ (z : List ℕ). take i xs ++ (ys ++ z)) d
     ∙ ap (λ (z : List ℕ). take i xs ++ z) (append-nil ys ∙ h ∙ ap (λ (z : List ℕ). bs ++ drop 12 z) t)
 
-twelve : (w : Record) → length (bytesOf w) ≡ 12
-unfolding bytesOf
-twelve w = refl
-
 pub image-length : (ws : List Record) → length (imageBytes ws) ≡ 12 * length ws
 image-length [] = refl
 image-length (w ∷ ws) =
     let a = length-append (bytesOf w) (imageBytes ws) in
-    let b = twelve w in
+    let b = twelve-bytes w in
     let c = image-length ws in
     omega arith
 

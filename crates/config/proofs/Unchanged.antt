@@ -4,7 +4,7 @@ use Prim.Native.Nat.{ℕ}
 use mathlib.Core.Path.{_≡_, refl}
 use lib.Bits.{bitAnd}
 use lib.Dec.{eqb}
-use Rattle.mask.proofs.Branch.{branch}
+use Rattle.mask.proofs.Branch.{branch, done}
 use Rattle.config.specs.Config.{configDataWritten, configIndexWritten, controlWritten, registerWritten}
 use Rattle.config.specs.Key.{KeyWritten, keyWritten}
 use Rattle.config.specs.declared.Config.{Config}
@@ -14,9 +14,6 @@ use Rattle.config.specs.declared.key.Key.{Key}
 -- done, or nothing is changed
 abbrev pub Kept : Config → Written → Type 0
 Kept g w = (w .status ≡ 0 → ⊥) → w .config ≡ g
-
-done : {A : Type 0} → (_≡_ {A = ℕ} 0 0 → ⊥) → A
-done n = absurd (n refl)
 
 pub index-kept : (g : Config) (v : ℕ) → Kept g (configIndexWritten g v)
 unfolding configIndexWritten

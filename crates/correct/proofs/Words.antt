@@ -11,7 +11,7 @@ use lib.ListN.{length, length-append}
 use Rattle.compiler.proofs.Image.{image-length}
 use Rattle.compiler.proofs.Places.{behind-from}
 use Rattle.compiler.specs.Words.{behind, emit, halt, imageBytes, word}
-use Rattle.record.proofs.ReadBack.{Fits, read-back}
+use Rattle.record.proofs.ReadBack.{Fits, read-back, twelve-bytes}
 use Rattle.record.specs.Record.{bytesOf, recordAt}
 use Rattle.record.specs.declared.Record.{Record}
 use Rattle.script.proofs.Loops.{fieldsWithin}
@@ -116,16 +116,12 @@ pub halt-fits : Fits halt
 halt-fits = bare 8 0 0 (omega arith) (omega arith) (omega arith)
 
 -- ---- the image
-twelve : (w : Record) → length (bytesOf w) ≡ 12
-unfolding bytesOf
-twelve w = refl
-
 lies-from : (front : List ℕ) (place : ℕ) (ws : List Record) → length front ≡ 12 * place → AllFit ws
     → At (front ++ imageBytes ws) place ws
 lies-from front place [] e h = tt
 lies-from front place (w ∷ ws) e h =
     let more = front ++ bytesOf w in
-    let l : length more ≡ 12 * suc place = omega (arith, length-append front (bytesOf w), twelve w) in
+    let l : length more ≡ 12 * suc place = omega (arith, length-append front (bytesOf w), twelve-bytes w) in
     let a : At (more ++ imageBytes ws) (suc place) ws = lies-from more (suc place) ws l (h .1) in (
       ap (recordAt (front ++ (bytesOf w ++ imageBytes ws))) (sym e) ∙ read-back front (imageBytes ws) w (h .0),
       rw append-assoc at a,

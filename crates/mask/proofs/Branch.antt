@@ -1,5 +1,6 @@
--- What holds of both branches of a test holds of its outcome; `branch-on` tells each branch what the test gave.
--- Assumes nothing.
+-- What holds of both branches of a test holds of its outcome; `branch-on` tells each branch what the test gave. `done` closes the
+-- branch of a law about the other statuses. Assumes nothing.
+use Prim.Native.Nat.{ℕ}
 use mathlib.Core.Path.{_≡_, refl}
 use mathlib.Core.Bool.{Bool, true, false, cond}
 
@@ -10,3 +11,7 @@ branch P false h k = k
 pub branch-on : {A : Type 0} (P : A → Type 0) (b : Bool) {x y : A} → (b ≡ true → P x) → (b ≡ false → P y) → P (cond b x y)
 branch-on P true h k = h refl
 branch-on P false h k = k refl
+
+-- status 0 is none of the others
+pub done : {A : Type 0} → (_≡_ {A = ℕ} 0 0 → ⊥) → A
+done n = absurd (n refl)

@@ -126,7 +126,7 @@ module _ (m : Monitor) (h : monitorInRange m ≡ true) where
 
       held-written : Kept (heldWritten m v)
       held-written =
-          branch Kept (lockSet (m .registers)) h
+          branch Kept (lockSet m) h
           (branch Kept (eqb (kindOf (m .index)) lock)
           (kept-stored (slotOf (m .index)) (bitOr (register m (m .index)) (bitAnd v (maskOf (m .index))))
           (within-or (maskOf (getD storedIndices (slotOf (m .index)) 0)) (register m (m .index))

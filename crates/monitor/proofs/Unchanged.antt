@@ -3,7 +3,7 @@
 use Prim.Native.Nat.{ℕ}
 use mathlib.Core.Path.{_≡_, refl}
 use lib.Dec.{eqb}
-use Rattle.mask.proofs.Branch.{branch}
+use Rattle.mask.proofs.Branch.{branch, done}
 use Rattle.monitor.specs.Monitor.{Written, heldWritten, lockSet, monitorDataWritten}
 use Rattle.monitor.specs.Table.{absent, clear, free, kindOf, lock, readOnly}
 use Rattle.monitor.specs.declared.Monitor.{Monitor}
@@ -12,11 +12,8 @@ use Rattle.monitor.specs.declared.Monitor.{Monitor}
 abbrev pub Kept : Monitor → Written → Type 0
 Kept m w = (w .status ≡ 0 → ⊥) → w .monitor ≡ m
 
-done : {A : Type 0} → (_≡_ {A = ℕ} 0 0 → ⊥) → A
-done n = absurd (n refl)
-
 held-kept : (m : Monitor) (v : ℕ) → Kept m (heldWritten m v)
-held-kept m v = branch (Kept m) (lockSet (m .registers)) (λ n. refl) (branch (Kept m) (eqb (kindOf (m .index)) lock) done done)
+held-kept m v = branch (Kept m) (lockSet m) (λ n. refl) (branch (Kept m) (eqb (kindOf (m .index)) lock) done done)
 
 pub data-kept : (m : Monitor) (v : ℕ) → Kept m (monitorDataWritten m v)
 unfolding monitorDataWritten

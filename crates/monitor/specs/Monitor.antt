@@ -42,8 +42,8 @@ unfoldable pub monitorInRange : Monitor → Bool
 monitorInRange m = allBelow 12 (slotInRange (m .registers))
 
 -- "40h: Lock is bit 1"
-abbrev pub lockSet : List ℕ → Bool
-lockSet registers = hasBit 0x02 (getD registers 0 0)
+abbrev pub lockSet : Monitor → Bool
+lockSet m = hasBit 0x02 (getD (m .registers) 0 0)
 
 -- ---- the data register. "those not listed are status 4"
 unfoldable pub monitorDataRead : Monitor → Answer
@@ -57,7 +57,7 @@ monitorIndexWritten m v = record { index = v; registers = m .registers }
 -- "A locked register written while Lock is set: status 2." "Lock is bit 1: writing 1 sets it, 0 does nothing"
 abbrev pub heldWritten : Monitor → ℕ → Written
 heldWritten m v =
-    cond (lockSet (m .registers)) (written 2 m)
+    cond (lockSet m) (written 2 m)
     (cond (eqb (kindOf (m .index)) lock)
     (written 0 (stored m (slotOf (m .index)) (bitOr (register m (m .index)) (bitAnd v (maskOf (m .index))))))
     (written 0 (stored m (slotOf (m .index)) (bitAnd v (maskOf (m .index))))))

@@ -3,7 +3,7 @@
 use access::Answer;
 ghost use mathlib.Core.Path.{_≡_};
 ghost use mathlib.Core.Bool.{_&&_};
-ghost use Rattle.mask.specs.Mask.{hasBit};
+ghost use Rattle.mask.specs.Mask.{hasBit, within};
 ghost use Rattle.monitor.specs.Monitor.{
   freshMonitor,
   monitorInRange,
@@ -874,44 +874,51 @@ impl Monitor {
         Monitor {
             index: 0,
             registers: [
-                0x00,
-                0x40,
-                0xEC,
-                0x0E,
-                0x24,
-                0x0E,
-                0x00,
-                0x04,
-                0x04,
-                0x00,
-                0x00,
-                0x00,
+                Monitor::reset(0x40),
+                Monitor::reset(0x7C),
+                Monitor::reset(0x7E),
+                Monitor::reset(0x80),
+                Monitor::reset(0x81),
+                Monitor::reset(0x82),
+                Monitor::reset(0x83),
+                Monitor::reset(0x90),
+                Monitor::reset(0x91),
+                Monitor::reset(0xB5),
+                Monitor::reset(0xB6),
+                Monitor::reset(0xB7),
             ],
         }
     }
 
-    // Every register within its mask. The masks stand here once more: an index into `MASK` lays out the whole table anew.
+    // Does the register at an index hold only bits of its mask?
+    fn is_within(index: u8, register: u8) -> bool
+        ensures { λ r. ⌜ r ≡ within (maskOf index) register ⌝ }
+    {
+        mask::within8(Monitor::mask(index), register)
+    }
+
+    // Every register within its mask. Each index is a constant, so that no table is laid out for it.
     pub fn in_range(self) -> bool
         ensures { λ r. ⌜ r ≡ monitorInRange self ⌝ }
     {
         let registers = self.registers;
-        mask::within8(0x02, registers[0])
-            & mask::within8(0xE6, registers[1])
-            & mask::within8(0xFF, registers[2])
-            & mask::within8(0x0F, registers[3])
-            & mask::within8(0x3F, registers[4])
-            & mask::within8(0x0F, registers[5])
-            & mask::within8(0x03, registers[6])
-            & mask::within8(0x1F, registers[7])
-            & mask::within8(0x1F, registers[8])
-            & mask::within8(0x33, registers[9])
-            & mask::within8(0xF0, registers[10])
-            & mask::within8(0x0F, registers[11])
+        Monitor::is_within(0x40, registers[0])
+            & Monitor::is_within(0x7C, registers[1])
+            & Monitor::is_within(0x7E, registers[2])
+            & Monitor::is_within(0x80, registers[3])
+            & Monitor::is_within(0x81, registers[4])
+            & Monitor::is_within(0x82, registers[5])
+            & Monitor::is_within(0x83, registers[6])
+            & Monitor::is_within(0x90, registers[7])
+            & Monitor::is_within(0x91, registers[8])
+            & Monitor::is_within(0xB5, registers[9])
+            & Monitor::is_within(0xB6, registers[10])
+            & Monitor::is_within(0xB7, registers[11])
     }
 
-    // Lock is bit 1 of 40h.
+    // Lock is bit 1 of 40h, whatever the index.
     fn lock_set(registers: &[u8; 12]) -> bool
-        ensures { λ r. ⌜ r ≡ lockSet (now (registers .entry)) ⌝ }
+        ensures { λ r. ⌜ r ≡ lockSet (monitor 0 (now (registers .entry))) ⌝ }
     {
         mask::has(registers[0], Monitor::LOCK_BIT)
     }

@@ -1,7 +1,7 @@
 -- Reading the twelve bytes of a record gives the record back, wherever they lie, if its fields fit their bytes.
 -- Assumes nothing.
 use Prim.Native.Nat.{ℕ, _+_, _*_, _/_, _%_, _<_}
-use mathlib.Core.Path.{_≡_, ap, _∙_}
+use mathlib.Core.Path.{_≡_, ap, refl, _∙_}
 use mathlib.Core.List.{List, _++_}
 use lib.ListN.{getD, length}
 use lib.Seq.{getD-append-add}
@@ -17,6 +17,10 @@ pub record Fits (r : Record) : Type 0 where
   pub port : r .port < 65536
   pub target : r .target < 65536
   pub value : r .value < 0x1_0000_0000
+
+pub twelve-bytes : (r : Record) → length (bytesOf r) ≡ 12
+unfolding bytesOf
+twelve-bytes r = refl
 
 -- what lies in front does not matter
 behind-front : (front bytes : List ℕ) → recordAt (front ++ bytes) (length front) ≡ recordAt bytes 0

@@ -87,14 +87,6 @@ fn lend(log: &mut [u32; 2048]) {
     }
 }
 
-// A refusal's number, and no run's ending.
-fn is_refusal(outcome: u32) -> bool {
-    if outcome == 0 {
-        return false;
-    }
-    outcome < sequencer::BUDGET_SPENT
-}
-
 // What is held after a run that is not refused.
 fn held_of(ran: Ran) -> Held {
     let device = ran.device;
@@ -104,7 +96,7 @@ fn held_of(ran: Ran) -> Held {
 
 // After a refusal all is held as it was.
 fn answered(held: Held, ran: Ran, log: &[u32], size: usize) -> Held {
-    if is_refusal(ran.outcome) {
+    if sequencer::is_refusal(ran.outcome) {
         answer::run_refused(ran.outcome, ran.place, held, log, size);
         return held;
     }
@@ -113,12 +105,13 @@ fn answered(held: Held, ran: Ran, log: &[u32], size: usize) -> Held {
     next
 }
 
-// Runs an image on what is held; a line that asks for more than there is room for is no command.
-fn run_image(held: Held, asked: Asked, image: &[u8], events: &[u32], log: &mut [u32]) -> Held {
-    let bytes = asked.bytes;
+// Runs an image on what is held, or a script on the device that is held; a line that asks for more than there is room for is no
+// command.
+fn run_within(held: Held, asked: Asked, bytes: &[u8], events: &[u32], log: &mut [u32]) -> Held {
+    let count = asked.bytes;
     let number = asked.events;
     let size = asked.size;
-    if image.len() < bytes {
+    if bytes.len() < count {
         return unread(held);
     }
     if events.len() < number {
@@ -128,36 +121,21 @@ fn run_image(held: Held, asked: Asked, image: &[u8], events: &[u32], log: &mut [
         return unread(held);
     }
     let device = held.device;
+    if asked.compiles {
+        let ran = correct::compile_and_run(
+            &bytes[..count],
+            device,
+            &events[..number],
+            asked.budget,
+            &mut log[..size],
+        );
+        return answered(held, ran, log, size);
+    }
     let sequencer = held.sequencer;
     let ran = sequencer::run(
-        &image[..bytes],
+        &bytes[..count],
         device,
         sequencer,
-        &events[..number],
-        asked.budget,
-        &mut log[..size],
-    );
-    answered(held, ran, log, size)
-}
-
-// Compiles a script and runs it on the device that is held, with the same bounds.
-fn run_script(held: Held, asked: Asked, script: &[u8], events: &[u32], log: &mut [u32]) -> Held {
-    let bytes = asked.bytes;
-    let number = asked.events;
-    let size = asked.size;
-    if script.len() < bytes {
-        return unread(held);
-    }
-    if events.len() < number {
-        return unread(held);
-    }
-    if log.len() < size {
-        return unread(held);
-    }
-    let device = held.device;
-    let ran = correct::compile_and_run(
-        &script[..bytes],
-        device,
         &events[..number],
         asked.budget,
         &mut log[..size],
@@ -172,10 +150,7 @@ fn run_on(
     events: &[u32; 4352],
     log: &mut [u32; 2048],
 ) -> Held {
-    if asked.compiles {
-        return run_script(held, asked, bytes, events, log);
-    }
-    run_image(held, asked, bytes, events, log)
+    run_within(held, asked, bytes, events, log)
 }
 
 fn run_asked(held: Held, line: &[u8], asked: Asked) -> Held {

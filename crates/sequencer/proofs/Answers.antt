@@ -4,7 +4,7 @@ use mathlib.Core.Path.{_≡_, refl, ap, sym, _∙_}
 use mathlib.Core.Bool.{Bool, true, false, cond, not, _&&_}
 use mathlib.Core.List.{List}
 use native.Mathlib.Omega.{arith}
-use borrow.Author.Tests.{eq-eqb, ne-eqb, ltb-false}
+use borrow.Author.Tests.{eq-eqb, ltb-false, ne-eqb, not-false}
 use lib.Dec.{eqb}
 use lib.ListN.{length}
 use Rattle.device.specs.Device.{deviceInRange}
@@ -28,7 +28,7 @@ use Rattle.sequencer.specs.Word.{imageWords}
 use Rattle.sequencer.specs.declared.Ran.{Ran}
 use Rattle.sequencer.specs.declared.Refused.{Refused}
 use Rattle.sequencer.specs.declared.Sequencer.{Sequencer}
-use Rattle.sequencer.proofs.Faults.{not-false, or-right}
+use Rattle.sequencer.proofs.Faults.{or-right}
 
 pub refused :
     (image : List ℕ) (d : Device) (s : Sequencer) (events : List ℕ) (budget : ℕ) (log : List ℕ) (f : Refused)

@@ -4,7 +4,7 @@ use mathlib.Core.Path.{_≡_, refl}
 use mathlib.Core.List.{List}
 use mathlib.Core.Bool.{Bool, true, false, cond, not, _&&_, _||_}
 use native.Mathlib.Omega.{arith}
-use borrow.Author.Tests.{eqb-false, eqb-true, leb-false, leb-true, ne-eqb}
+use borrow.Author.Tests.{eqb-false, eqb-true, leb-false, leb-true, ne-eqb, not-false}
 use lib.Dec.{eqb, leb}
 use lib.ListN.{length}
 use Rattle.mask.proofs.Every.{and-left, and-right}
@@ -45,10 +45,6 @@ or-left false b h = refl
 pub or-right : (a b : Bool) → (a || b) ≡ false → b ≡ false
 or-right true b h = let z : _≡_ {A = ℕ} 0 1 = cc in absurd (omega arith)
 or-right false b h = h
-
-pub not-false : (a : Bool) → not a ≡ false → a ≡ true
-not-false true h = refl
-not-false false h = let z : _≡_ {A = ℕ} 0 1 = cc in absurd (omega arith)
 
 -- ---- what a kind tells
 pub read-room : (room logged : ℕ) (r : Record) → r .kind ≡ 2 → logFull room logged r ≡ false → logged < room

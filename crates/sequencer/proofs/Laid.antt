@@ -23,13 +23,13 @@ use Rattle.sequencer.specs.Sequencer.{
 }
 use Rattle.sequencer.specs.declared.Sequencer.{Sequencer}
 
-store-laid : (cs rest : List ℕ) (x v i : ℕ) → set (laidOn cs rest) (length cs + i) v ≡ laidOn cs (set rest i v)
-store-laid [] rest x v i =
+store-laid : (cs rest : List ℕ) (v i : ℕ) → set (laidOn cs rest) (length cs + i) v ≡ laidOn cs (set rest i v)
+store-laid [] rest v i =
     let e : 0 + i ≡ i = omega arith in
     rw e
-store-laid (c ∷ cs) rest x v i =
+store-laid (c ∷ cs) rest v i =
     let e : suc (length cs) + i ≡ length cs + suc i = omega arith in
-    rw e (store-laid cs (c ∷ rest) x v (suc i))
+    rw e (store-laid cs (c ∷ rest) v (suc i))
 
 read-laid : (cs rest : List ℕ) (i : ℕ) → getD (laidOn cs rest) (length cs + i) 0 ≡ getD rest i 0
 read-laid [] rest i =
@@ -42,7 +42,7 @@ read-laid (c ∷ cs) rest i =
 store-next : (cs rest : List ℕ) (x v : ℕ) → set (laidOn cs (x ∷ rest)) (length cs) v ≡ laidOn cs (v ∷ rest)
 store-next cs rest x v =
     let e : length cs + 0 ≡ length cs = omega arith in
-    rw e at (store-laid cs (x ∷ rest) x v 0)
+    rw e at (store-laid cs (x ∷ rest) v 0)
 
 pub counter-pushed : (cs : List ℕ) (v : ℕ) → length cs < 8 → set (laid cs) (length cs) v ≡ laid (v ∷ cs)
 counter-pushed cs v h =

@@ -39,6 +39,10 @@ ran image room zero steps m = ended 19 steps m
 ran image room (suc left) steps m = follow (ran image room left (suc steps)) steps m (stepOf image room m)
 
 -- ---- the refusals
+-- "A run ends with 0 halted, 19 budget spent, or a fault: 20 [..]": a smaller number is a refusal's
+abbrev pub isRefusal : ℕ → Bool
+isRefusal outcome = not (eqb outcome 0) && ltb outcome 19
+
 -- 10: "image empty, no multiple of 12, or over 1,024 words (0)"
 abbrev pub badImage : List ℕ → Bool
 badImage image = eqb (length image) 0 || (not (eqb (length image % 12) 0) || ltb 1024 (imageWords image))

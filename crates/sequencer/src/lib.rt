@@ -1,6 +1,6 @@
 // The sequencer: runs an image on a device.
-pub mod running;
-pub mod word;
+mod running;
+mod word;
 
 use crate::running::Position;
 use access::Answer;
@@ -11,6 +11,7 @@ ghost use Prim.Native.Nat.{_+_, _<_, _≤_};
 ghost use lib.ListN.{length};
 ghost use Rattle.sequencer.specs.Sequencer.{freshSequencer, counterInRange, sequencerInRange, countersOf, laid};
 ghost use Rattle.sequencer.specs.Run.{
+  isRefusal,
   badImage,
   badState,
   eventsRefusal,
@@ -54,6 +55,16 @@ pub const BUDGET_SPENT: u32 = 19;
 pub const PLACE_BEYOND: u32 = 21;
 
 const MOST_EVENTS: usize = 4096;
+
+// Is an outcome a refusal's number, and no run's ending?
+pub fn is_refusal(outcome: u32) -> bool
+    ensures { λ r. ⌜ r ≡ isRefusal outcome ⌝ }
+{
+    if outcome == HALTED {
+        return false;
+    }
+    outcome < BUDGET_SPENT
+}
 
 // ---- the state
 

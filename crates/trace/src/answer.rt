@@ -50,16 +50,8 @@ fn ended(outcome: u32, steps: u32, log: &[u32; 1024], logged: usize) {
     write(&text, c);
 }
 
-// A refusal's number, and no run's ending.
-fn is_refusal(outcome: u32) -> bool {
-    if outcome == 0 {
-        return false;
-    }
-    outcome < sequencer::BUDGET_SPENT
-}
-
 pub fn ran(ran: Ran, log: &[u32; 1024]) {
-    if is_refusal(ran.outcome) {
+    if sequencer::is_refusal(ran.outcome) {
         refused(ran.outcome, ran.place);
         return;
     }

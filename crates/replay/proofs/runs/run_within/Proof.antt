@@ -1,11 +1,11 @@
--- `replay::runs::run_script` is safe and ends. Assumes nothing.
+-- `replay::runs::run_within` is safe and ends. Assumes nothing.
 -- Each part is lent only behind the test that it lies within its buffer.
 use mathlib.Core.Path.{sym}
 use native.Mathlib.Omega.{arith}
 use lib.Seq.{length-take-le}
 use borrow.Author.Needs.{needs}
-use Rattle.replay.proofs.runs.run_script.Statement.{statement}
-use Rattle.replay.proofs.runs.run_script.Tie as tie
+use Rattle.replay.proofs.runs.run_within.Statement.{statement}
+use Rattle.replay.proofs.runs.run_within.Tie as tie
 
 unread-requires : tie.Need-unread-requires
 unread-requires c κs = search needs
@@ -49,8 +49,32 @@ same-length c = search needs
 returns-4 : tie.Need-returns-4
 returns-4 c = search needs
 
-pub run-script-spec : {M : Type 1} → statement M
-run-script-spec =
+slice-aggregate-run : tie.Need-slice-aggregate-run
+slice-aggregate-run c = sym (length-take-le _ _ (omega arith))
+
+slice-aggregate-run-2 : tie.Need-slice-aggregate-run-2
+slice-aggregate-run-2 c = sym (length-take-le _ _ (omega arith))
+
+slice-relend-prefix-run : tie.Need-slice-relend-prefix-run
+slice-relend-prefix-run c = search needs
+
+slice-aggregate-run-3 : tie.Need-slice-aggregate-run-3
+slice-aggregate-run-3 c = sym (length-take-le _ _ (omega arith))
+
+run-requires : tie.Need-run-requires
+run-requires c κs = search needs
+
+answered-requires-2 : tie.Need-answered-requires-2
+answered-requires-2 c κs = search needs
+
+same-length-2 : tie.Need-same-length-2
+same-length-2 c = search needs
+
+returns-5 : tie.Need-returns-5
+returns-5 c = search needs
+
+pub run-within-spec : {M : Type 1} → statement M
+run-within-spec =
     tie.close
     (tie.spec
     unread-requires
@@ -66,4 +90,12 @@ run-script-spec =
     compile-and-run-requires
     answered-requires
     same-length
-    returns-4)
+    returns-4
+    slice-aggregate-run
+    slice-aggregate-run-2
+    slice-relend-prefix-run
+    slice-aggregate-run-3
+    run-requires
+    answered-requires-2
+    same-length-2
+    returns-5)
