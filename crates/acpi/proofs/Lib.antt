@@ -1,4 +1,5 @@
 pub mod Legal
+pub mod Moves
 pub mod Range
 pub mod Settle
 pub mod Ticks

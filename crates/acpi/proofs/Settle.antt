@@ -3,12 +3,13 @@
 use Prim.Native.Nat.{ℕ}
 use mathlib.Core.Path.{_≡_, refl, ap, _∙_}
 use mathlib.Core.Bool.{Bool, true, false, cond, _||_, and-false, and-true, or-true}
+use lib.Bits.{bitOr}
 use Rattle.mask.proofs.HasBit.{has-or}
 use Rattle.mask.specs.Mask.{hasBit}
 use Rattle.acpi.proofs.Legal.{either}
 use Rattle.acpi.specs.Block.{freshAcpi, raised}
-use Rattle.acpi.specs.Fields.{withCpu, withSleeping}
-use Rattle.acpi.specs.Settle.{pending, settled, woken}
+use Rattle.acpi.specs.Fields.{withCpu, withPm1sts, withSleeping}
+use Rattle.acpi.specs.Settle.{pending, settled, woken, wokenStatus}
 use Rattle.acpi.specs.declared.Acpi.{Acpi}
 
 pub pending-raised : (a : Acpi) (bits : ℕ) → pending a ≡ true → pending (raised a bits) ≡ true
@@ -25,14 +26,14 @@ pending-raised a bits =
 
 -- what waking and CPU state 0 make of a block with something pending
 abbrev pub roused : Acpi → Acpi
-roused a = withCpu (cond (a .sleeping) (raised (withSleeping a false) 0x8000) a) 0
+roused a = withCpu (withSleeping (withPm1sts a (wokenStatus a)) false) 0
 
 pub pending-roused : (a : Acpi) → pending a ≡ true → pending (roused a) ≡ true
 unfolding pending
 pending-roused a h = still (a .sleeping)
   where
-    still : (s : Bool) → pending (withCpu (cond s (raised (withSleeping a false) 0x8000) a) 0) ≡ true
-    still true = pending-raised (withSleeping a false) 0x8000 h
+    still : (s : Bool) → pending (withPm1sts a (cond s (bitOr (a .pm1sts) 0x8000) (a .pm1sts))) ≡ true
+    still true = pending-raised a 0x8000 h
     still false = h
 
 settled-is : (a : Acpi) → settled a ≡ cond (pending (woken a)) (withCpu (woken a) 0) (woken a)
@@ -45,15 +46,15 @@ settled-idle a h = settled-is a ∙ rw (h, and-false (a .sleeping), h)
 
 pub settled-pending : (a : Acpi) → pending a ≡ true → settled a ≡ roused a
 unfolding woken pending
-settled-pending a h = settled-is a ∙ rw (h, and-true (a .sleeping), pending-roused a h)
+settled-pending a h = settled-is a ∙ pick (a .sleeping) refl
+  where
+    pick : (s : Bool) → a .sleeping ≡ s → cond (pending (woken a)) (withCpu (woken a) 0) (woken a) ≡ roused a
+    pick true e = rw (e, h, pending-raised (withSleeping a false) 0x8000 h)
+    pick false e = rw (e, h)
 
 -- what waking leaves is awake
 roused-roused : (a : Acpi) → roused (roused a) ≡ roused a
-roused-roused a = pick (a .sleeping) refl
-  where
-    pick : (s : Bool) → a .sleeping ≡ s → roused (roused a) ≡ roused a
-    pick true e = rw e
-    pick false e = rw e
+roused-roused a = refl
 
 pub settled-settled : (a : Acpi) → settled (settled a) ≡ settled a
 settled-settled a = pick (pending a) refl

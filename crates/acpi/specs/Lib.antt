@@ -2,6 +2,7 @@ pub mod Block
 pub mod Fields
 pub mod Happen
 pub mod Map
+pub mod Moved
 pub mod Registers
 pub mod Settle
 pub mod Setup

@@ -35,7 +35,8 @@ ghost use Rattle.acpi.specs.Setup.{
   irqWritten,
   setupWritten,
 };
-ghost use Rattle.acpi.specs.Settle.{pending, sciOn, smiOn, woken, settled};
+ghost use Rattle.acpi.specs.Moved.{movedOf};
+ghost use Rattle.acpi.specs.Settle.{pending, sciOn, smiOn, wokenStatus, settled};
 ghost use Rattle.acpi.specs.Happen.{ticked, mapped, pinned};
 
 // The arrays first and then the widest field, so that there is no gap: a struct is copied with its gaps.
@@ -69,6 +70,15 @@ pub struct Read {
 pub struct Written {
     pub status: u32,
     pub acpi: Acpi,
+}
+
+// What events and settling can change of the block, but for the pin levels.
+pub struct Moved {
+    pub pm1sts: u16,
+    pub gpe0sts: u16,
+    pub timer: u32,
+    pub cpu: u8,
+    pub sleeping: bool,
 }
 
 impl Acpi {
@@ -203,29 +213,40 @@ impl Acpi {
         false
     }
 
-    // A sleeping chip with something pending wakes.
-    fn woken(mut self) -> Self
-        ensures { λ r. ⌜ r ≡ woken self ⌝ }
+    // PM1a_STS where something is pending: a sleeping chip wakes.
+    pub fn woken_status(self) -> u16
+        ensures { λ r. ⌜ r ≡ wokenStatus self ⌝ }
     {
         if self.sleeping {
-            if self.pending() {
-                self.sleeping = false;
-                return self.raise(Acpi::WAKE_STS);
-            }
+            return self.pm1sts | Acpi::WAKE_STS;
+        }
+        self.pm1sts
+    }
+
+    // What follows every event and every access.
+    pub fn settled(mut self) -> Self
+        ensures { λ r. ⌜ r ≡ settled self ⌝ }
+    {
+        if self.pending() {
+            let status = self.woken_status();
+            self.pm1sts = status;
+            self.sleeping = false;
+            self.cpu = 0;
+            return self;
         }
         self
     }
 
-    // What follows every event and every access.
-    pub fn settled(self) -> Self
-        ensures { λ r. ⌜ r ≡ settled self ⌝ }
+    pub fn moved(self) -> Moved
+        ensures { λ r. ⌜ r ≡ movedOf self ⌝ }
     {
-        let mut next = self.woken();
-        if next.pending() {
-            next.cpu = 0;
-            return next;
+        Moved {
+            pm1sts: self.pm1sts,
+            gpe0sts: self.gpe0sts,
+            timer: self.timer,
+            cpu: self.cpu,
+            sleeping: self.sleeping,
         }
-        next
     }
 
     // Sets bits of PM1a_STS.

@@ -1,7 +1,9 @@
 -- Document 01, "Outside events": "32-bit numbers, kind in the top byte, operand below".
 use Prim.Native.Nat.{ℕ, _/_, _%_, _^_}
 use mathlib.Core.Bool.{Bool, false, cond, not, _||_}
+use mathlib.Core.List.{List}
 use lib.Dec.{eqb, leb}
+use lib.ListN.{set}
 use Rattle.acpi.specs.Block.{raised, resetAcpi}
 use Rattle.acpi.specs.Happen.{pinned, ticked}
 use Rattle.acpi.specs.declared.Acpi.{Acpi}
@@ -54,6 +56,11 @@ abbrev pub acpiMoved : Acpi → ℕ → ℕ → Acpi
 acpiMoved a kind operand =
     cond (eqb kind 1) (ticked a operand)
     (cond (eqb kind 2) (pinned a (operand % 8) (hasBit 0x08 operand)) (raised a (statusBit kind)))
+
+-- the pin levels after such an event
+abbrev pub levelsAfter : ℕ → List Bool → List Bool
+levelsAfter number levels =
+    cond (eqb (kindOf number) 2) (set levels (operandOf number % 8) (hasBit 0x08 (operandOf number))) levels
 
 -- what an event does, before the settling
 unfoldable pub moved : Device → ℕ → ℕ → Device

@@ -1,8 +1,10 @@
 // Outside events: document 01, "Outside events". A 32-bit number, its kind in the top byte and its operand below.
 use acpi::Acpi;
+use acpi::Moved;
 use config::Config;
 use monitor::Monitor;
 ghost use mathlib.Core.Path.{_≡_};
+ghost use Rattle.acpi.specs.Moved.{movedOf};
 ghost use Rattle.acpi.specs.Settle.{settled};
 ghost use Rattle.device.specs.Event.{
   isOperand,
@@ -12,8 +14,8 @@ ghost use Rattle.device.specs.Event.{
   resetBy,
   statusBit,
   acpiMoved,
+  levelsAfter,
   movesAcpi,
-  moved,
   happened,
 };
 use crate::Device;
@@ -93,12 +95,24 @@ pub fn moves_acpi(number: u32) -> bool
     kind != RESET
 }
 
-// The ACPI block after such an event and its settling.
-pub fn acpi_happened(acpi: Acpi, number: u32) -> Acpi
-    ensures { λ r. ⌜ r ≡ settled (acpiMoved acpi (kindOf number) (operandOf number)) ⌝ }
+// What such an event and its settling change of the block.
+pub fn acpi_happened(acpi: Acpi, number: u32) -> Moved
+    ensures { λ r. ⌜ r ≡ movedOf (settled (acpiMoved acpi (kindOf number) (operandOf number))) ⌝ }
 {
     let next = acpi_moved(acpi, number / KIND, number % KIND);
-    next.settled()
+    let settled = next.settled();
+    settled.moved()
+}
+
+// The pin levels after such an event; they change where they stand.
+pub fn take_level(levels: &mut [bool; 8], number: u32)
+    ensures { λ _. ⌜ now (levels .exit) ≡ levelsAfter number (now (levels .entry)) ⌝ }
+{
+    let operand = number % KIND;
+    if number / KIND == PIN {
+        let pin = (operand % 8) as usize;
+        levels[pin] = operand & 0x08 != 0;
+    }
 }
 
 impl Device {
@@ -124,30 +138,30 @@ impl Device {
         Device::fresh()
     }
 
-    // What an event does, before the settling.
-    fn moved(mut self, kind: u32, operand: u32) -> Self
-        ensures { λ r. ⌜ r ≡ moved self kind operand ⌝ }
+    // An event: the device after it and its settling.
+    pub fn happened(mut self, number: u32) -> Self
+        ensures { λ r. ⌜ r ≡ happened self number ⌝ }
     {
+        let kind = number / KIND;
+        let operand = number % KIND;
         if kind == SENSOR {
             let monitor = self.monitor;
             let next = monitor.sense((operand % 4) as u8);
             self.monitor = next;
-            return self;
+            return self.settled();
         }
         if kind == RESET {
-            return self.reset_by(operand);
+            let next = self.reset_by(operand);
+            return next.settled();
         }
         let acpi = self.acpi;
-        let next = acpi_moved(acpi, kind, operand);
-        self.acpi = next;
+        let moved = acpi_happened(acpi, number);
+        self.acpi.pm1sts = moved.pm1sts;
+        self.acpi.gpe0sts = moved.gpe0sts;
+        self.acpi.timer = moved.timer;
+        self.acpi.cpu = moved.cpu;
+        self.acpi.sleeping = moved.sleeping;
+        take_level(&mut self.acpi.levels, number);
         self
-    }
-
-    // An event: the device after it and its settling.
-    pub fn happened(self, number: u32) -> Self
-        ensures { λ r. ⌜ r ≡ happened self number ⌝ }
-    {
-        let next = self.moved(number / KIND, number % KIND);
-        next.settled()
     }
 }

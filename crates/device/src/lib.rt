@@ -14,8 +14,8 @@ ghost use Rattle.device.specs.Device.{freshDevice, deviceInRange, output
 
 pub struct Device {
     pub config: Config,
-    pub key: Key,
     pub monitor: Monitor,
+    pub key: Key,
     pub acpi: Acpi,
 }
 

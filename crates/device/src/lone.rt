@@ -8,19 +8,19 @@ use crate::Reached;
 
 // The answer to a lone access. `refusal` is 0 where it is done, and else document 01's number.
 pub struct Accessed {
+    pub device: Device,
     pub refusal: u32,
     pub place: u32,
     pub status: u32,
     pub value: u32,
     pub outputs: Outputs,
-    pub device: Device,
 }
 
 pub struct Happened {
+    pub device: Device,
     pub refusal: u32,
     pub place: u32,
     pub outputs: Outputs,
-    pub device: Device,
 }
 
 pub const BAD_ACCESS: u32 = 4;

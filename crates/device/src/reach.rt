@@ -22,7 +22,6 @@ ghost use Rattle.device.specs.Reach.{
   keyAnswers,
   keyReached,
   reach,
-  reached,
   answered,
   accessed,
 };
@@ -155,52 +154,42 @@ fn reach(answer: Answer, device: Device) -> Reached
 }
 
 impl Device {
-    // The answer of the block that takes the access, before the settling.
-    fn reached(mut self, access: Access) -> Reached
-        ensures { λ r. ⌜ r ≡ reached self access ⌝ }
+    // An access: its answer, and the device after it and its settling.
+    pub fn accessed(mut self, access: Access) -> Reached
+        ensures { λ r. ⌜ r ≡ accessed self access ⌝ }
     {
         let config = self.config;
         let taker = taker(config, access);
+        let mut answer = Answer::bare(Answer::UNCLAIMED);
         if taker == Device::CONFIGURATION {
             let r = config_reached(config, access);
-            let answer = r.answer;
             let next = r.config;
             self.config = next;
-            return reach(answer, self);
-        }
-        if taker == Device::ACPI {
+            answer = r.answer;
+        } else if taker == Device::ACPI {
             let acpi = self.acpi;
             let r = acpi_reached(acpi, access);
-            let answer = r.answer;
             let next = r.acpi;
             self.acpi = next;
-            return reach(answer, self);
-        }
-        if taker == Device::MONITOR {
+            answer = r.answer;
+        } else if taker == Device::MONITOR {
             let r = monitor_reached(
                 config,
                 self.monitor.index,
                 &mut self.monitor.registers,
                 access,
             );
-            let answer = r.answer;
             self.monitor.index = r.index;
-            return reach(answer, self);
+            answer = r.answer;
+        } else if taker == Device::KEY {
+            answer = key_reached(config, &mut self.key.bytes, access);
         }
-        if taker == Device::KEY {
-            let answer = key_reached(config, &mut self.key.bytes, access);
-            return reach(answer, self);
+        let acpi = self.acpi;
+        if acpi.pending() {
+            self.acpi.pm1sts = acpi.woken_status();
+            self.acpi.sleeping = false;
+            self.acpi.cpu = 0;
         }
-        reach(Answer::bare(Answer::UNCLAIMED), self)
-    }
-
-    // An access: its answer, and the device after it and its settling.
-    pub fn accessed(self, access: Access) -> Reached
-        ensures { λ r. ⌜ r ≡ accessed self access ⌝ }
-    {
-        let r = self.reached(access);
-        let device = r.device;
-        let answer = r.answer;
-        reach(answered(access, answer), device.settled())
+        reach(answered(access, answer), self)
     }
 }

@@ -17,6 +17,7 @@ use Rattle.sequencer.specs.Step.{Machine, did, machine}
 use Rattle.sequencer.specs.declared.Ran.{Ran}
 use Rattle.sequencer.specs.declared.Sequencer.{Sequencer}
 use Rattle.sequencer.specs.declared.running.Position.{Position}
+use Rattle.sequencer.specs.declared.running.Turned.{Turned}
 
 -- a run on its way: the device, and where it stands
 pub record Running : Type 0 where
@@ -65,12 +66,15 @@ Moves word events x y = (log : List ℕ) → Does word events x log y log
 abbrev pub TakesNone : Record → Running → Running → Type 0
 TakesNone word x y = (events : List ℕ) → Moves word events x y
 
--- and it leaves the device alone: the position and the counters move
-abbrev pub MovesAlone : Record → Position → List ℕ → Position → List ℕ → Type 0
-MovesAlone word x cs y cs' = (d : Device) → TakesNone word (running d x cs) (running d y cs')
+-- and it leaves the device alone: the place and the counters move
+abbrev pub turnedTo : Position → Turned → Position
+turnedTo x y = record { used = y .used; taken = x .taken; logged = x .logged; place = y .place }
+
+abbrev pub MovesAlone : Record → Position → List ℕ → Turned → List ℕ → Type 0
+MovesAlone word x cs y cs' = (d : Device) → TakesNone word (running d x cs) (running d (turnedTo x y) cs')
 
 -- and the counters too
-abbrev pub MovesPlace : Record → Position → Position → Type 0
+abbrev pub MovesPlace : Record → Position → Turned → Type 0
 MovesPlace word x y = (cs : List ℕ) → MovesAlone word x cs y cs
 
 -- what the words ask that move the position alone, and those that access the device: they are asked only of words without a fault

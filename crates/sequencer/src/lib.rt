@@ -271,7 +271,9 @@ fn run_words(
             return ended(HALTED, steps + 1, chip, x, counters);
         }
         if word::turns(word) {
-            x = x.turned(word, &mut counters);
+            let next = x.turned(word, &mut counters);
+            x.used = next.used;
+            x.place = next.place;
             steps = counted(steps);
         } else if word.kind == word::DELAY {
             let acpi = chip.acpi;
@@ -287,7 +289,12 @@ fn run_words(
                 if device::event::moves_acpi(event) {
                     let acpi = chip.acpi;
                     let moved = device::event::acpi_happened(acpi, event);
-                    chip.acpi = moved;
+                    chip.acpi.pm1sts = moved.pm1sts;
+                    chip.acpi.gpe0sts = moved.gpe0sts;
+                    chip.acpi.timer = moved.timer;
+                    chip.acpi.cpu = moved.cpu;
+                    chip.acpi.sleeping = moved.sleeping;
+                    device::event::take_level(&mut chip.acpi.levels, event);
                 } else {
                     chip = chip.happened(event);
                 }
@@ -321,8 +328,9 @@ fn run_words(
             }
             let acpi = chip.acpi;
             if acpi.pending() {
-                let settled = acpi.settled();
-                chip.acpi = settled;
+                chip.acpi.pm1sts = acpi.woken_status();
+                chip.acpi.sleeping = false;
+                chip.acpi.cpu = 0;
             }
             let given = device::reach::answered(access, answer);
             x = x.answered(word, given.value, events, log);

@@ -59,27 +59,39 @@ pub fn access_of(word: Record) -> Access
     read_of(word)
 }
 
-// ---- words that move the position and the counters alone
+// ---- words that move the place and the counters alone
+
+// Where such a word leads. What the run has taken and logged is not handed round: to copy a number that was just stored, together
+// with its neighbour, is to wait for it.
+pub struct Turned {
+    pub used: usize,
+    pub place: u32,
+}
 
 impl Position {
     // Repeat 0 jumps and pushes no counter.
-    fn enter(mut self, word: Record, counters: &mut [u32; 8]) -> Self
+    fn enter(self, word: Record, counters: &mut [u32; 8]) -> Turned
         requires { ⌜ (self .place < 4096) × (word .kind ≡ 4) × (8 ≤ self .used → word .value ≡ 0) ⌝ }
         ensures { λ r. ⌜ MovesAlone word self (now (counters .entry)) r (now (counters .exit)) ⌝ }
     {
         let used = self.used;
         if word.value == 0 {
-            self.place = word.target;
-            return self;
+            return Turned {
+                used,
+                place: word.target,
+            };
         }
         counters[used] = word.value;
-        self.used = used + 1;
-        self.place = self.place + 1;
-        self
+        let deeper = used + 1;
+        let place = self.place + 1;
+        Turned {
+            used: deeper,
+            place,
+        }
     }
 
     // A counter that comes to 0 is out of use.
-    fn loop_end(mut self, word: Record, counters: &mut [u32; 8]) -> Self
+    fn loop_end(self, word: Record, counters: &mut [u32; 8]) -> Turned
         requires { ⌜ (self .place < 4096) × (word .kind ≡ 5) × (0 < self .used) × (self .used ≤ 8) ⌝ }
         ensures { λ r. ⌜ MovesAlone word self (now (counters .entry)) r (now (counters .exit)) ⌝ }
     {
@@ -87,25 +99,28 @@ impl Position {
         let counter = counters[top];
         if counter <= 1 {
             counters[top] = 0;
-            self.used = top;
-            self.place = self.place + 1;
-            return self;
+            let place = self.place + 1;
+            return Turned { used: top, place };
         }
         counters[top] = counter - 1;
-        self.place = word.target;
-        self
+        Turned {
+            used: self.used,
+            place: word.target,
+        }
     }
 
-    fn jump(mut self, word: Record) -> Self
+    fn jump(self, word: Record) -> Turned
         requires { ⌜ word .kind ≡ 7 ⌝ }
         ensures { λ r. ⌜ MovesPlace word self r ⌝ }
     {
-        self.place = word.target;
-        self
+        Turned {
+            used: self.used,
+            place: word.target,
+        }
     }
 
     // An enter, a loop end or a jump.
-    pub fn turned(self, word: Record, counters: &mut [u32; 8]) -> Self
+    pub fn turned(self, word: Record, counters: &mut [u32; 8]) -> Turned
         requires { ⌜ (self .place < 4096) × CanTurn self word ⌝ }
         ensures { λ r. ⌜ MovesAlone word self (now (counters .entry)) r (now (counters .exit)) ⌝ }
     {

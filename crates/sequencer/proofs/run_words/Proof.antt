@@ -7,7 +7,7 @@ use native.Mathlib.Omega.{arith}
 use borrow.Author.Needs.{needs, scaled-fits}
 use lib.ListN.{drop, length}
 use Rattle.device.proofs.Claims.{acpi-takes, key-takes}
-use Rattle.device.proofs.Taken.{by-acpi, by-acpi-event, by-config, by-key, by-monitor, by-nobody, gives-accessed, nothing-settles, same-reach}
+use Rattle.device.proofs.Taken.{by-acpi, by-acpi-event, by-config, by-key, by-monitor, by-nobody, gives-accessed, nothing-settles, rouses, same-reach}
 use Rattle.device.proofs.Ticks.{delays}
 use Rattle.device.specs.Device.{settledDevice, withAcpi}
 use Rattle.device.specs.Reach.{accessed, reach, reached}
@@ -171,6 +171,9 @@ moves-acpi-requires c κs = search needs
 acpi-happened-requires : tie.Need-acpi-happened-requires Inv-loop μ-loop
 acpi-happened-requires c κs = search needs
 
+take-level-requires : tie.Need-take-level-requires Inv-loop μ-loop
+take-level-requires c κs = search needs
+
 happened-requires : tie.Need-happened-requires Inv-loop μ-loop
 happened-requires c κs = search needs
 
@@ -198,8 +201,8 @@ key-reached-requires c κs = key-takes _ _ (sym (c .before .before .before .befo
 pending-requires : tie.Need-pending-requires Inv-loop μ-loop
 pending-requires c κs = search needs
 
-settled-requires-2 : tie.Need-settled-requires-2 Inv-loop μ-loop
-settled-requires-2 c κs = search needs
+woken-status-requires : tie.Need-woken-status-requires Inv-loop μ-loop
+woken-status-requires c κs = search needs
 
 answered-requires : tie.Need-answered-requires Inv-loop μ-loop
 answered-requires c κs = search needs
@@ -225,7 +228,7 @@ arrives :
     → c .if6 .chip ≡ nextApplied (c .before .before .before .before .before .before .before .before .before .before .before .before .before .before .loop .chip) (drop (c .before .before .before .before .before .before .before .before .before .before .before .before .before .before .loop .x .taken) (c .before .before .before .before .before .before .before .before .before .before .before .before .before .before .before .before .before .before .before .before .args .events .now))
 arrives c =
     ⊎-elim
-    (λ w. w .6 ∙ sym (by-acpi-event _ _ _ (sym (w .2 .ensures) ∙ w .3 .taken) (w .5 .ensures)) ∙ sym (next-there _ _ _ (w .0 .taken)))
+    (λ w. w .13 ∙ sym (by-acpi-event _ _ _ _ (sym (w .2 .ensures) ∙ w .3 .taken) (w .5 .ensures) (w .12 .ensures)) ∙ sym (next-there _ _ _ (w .0 .taken)))
     (⊎-elim (λ w. w .5 ∙ w .4 .ensures ∙ sym (next-there _ _ _ (w .0 .taken)))
     (λ w. w .1 ∙ sym (next-none _ _ _ (w .0 .left)))) (c .if6 .came)
 
@@ -244,7 +247,7 @@ reaches c =
 
 settles : (c : tie.Joined12 Inv-loop μ-loop) → c .if12 .chip ≡ settledDevice (c .before .before .before .if8 .chip)
 settles c =
-    ⊎-elim (λ w. w .2 ∙ ap (withAcpi (c .before .before .before .if8 .chip)) (w .1 .ensures))
+    ⊎-elim (λ w. w .5 ∙ rouses _ _ (sym (c .before .pending .ensures) ∙ w .0 .taken) (w .1 .ensures))
     (λ w. w .1 ∙ sym (nothing-settles _ (sym (c .before .pending .ensures) ∙ w .0 .left))) (c .if12 .came)
 
 loop-again-3 : tie.Need-loop-again-3 Inv-loop μ-loop
@@ -313,6 +316,7 @@ run-words-spec =
     shared-slice-read-event
     moves-acpi-requires
     acpi-happened-requires
+    take-level-requires
     happened-requires
     access-of-requires
     taker-requires
@@ -322,7 +326,7 @@ run-words-spec =
     monitor-reached-requires
     key-reached-requires
     pending-requires
-    settled-requires-2
+    woken-status-requires
     answered-requires
     answered-requires-2
     counted-requires-3

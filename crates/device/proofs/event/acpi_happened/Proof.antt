@@ -9,11 +9,15 @@ acpi-moved-requires c κs = search needs
 settled-requires : tie.Need-settled-requires
 settled-requires c κs = search needs
 
+moved-requires : tie.Need-moved-requires
+moved-requires c κs = search needs
+
 returns : tie.Need-returns
 returns c = simp (
-  c .before .acpi-moved .ensures,
-  c .settled .ensures,
+  c .before .before .acpi-moved .ensures,
+  c .before .settled .ensures,
+  c .moved .ensures,
 )
 
 pub acpi-happened-spec : {M : Type 1} → statement M
-acpi-happened-spec = tie.close (tie.spec acpi-moved-requires settled-requires returns)
+acpi-happened-spec = tie.close (tie.spec acpi-moved-requires settled-requires moved-requires returns)

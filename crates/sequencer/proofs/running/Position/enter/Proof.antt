@@ -17,11 +17,11 @@ mul-counters c = omega (arith, room-left _ _ (c .before .before .pre .2) (c .if1
 element-write-counters : tie.Need-element-write-counters
 element-write-counters c = room-left _ _ (c .before .before .pre .2) (c .if1 .left)
 
-add-self : tie.Need-add-self
-add-self c = omega (arith, room-left _ _ (c .before .before .pre .2) (c .if1 .left))
+add-deeper : tie.Need-add-deeper
+add-deeper c = omega (arith, room-left _ _ (c .before .before .pre .2) (c .if1 .left))
 
-add-self-2 : tie.Need-add-self-2
-add-self-2 c = search needs
+add-place : tie.Need-add-place
+add-place c = search needs
 
 returns-2 : tie.Need-returns-2
 returns-2 c = λ d.
@@ -29,4 +29,4 @@ returns-2 c = λ d.
     entered-pushed (e .args .word) (running d (e .args .self) (e .args .counters .now)) (e .pre .1) (c .before .if1 .left) (room-left _ _ (e .pre .2) (c .before .if1 .left))
 
 pub enter-spec : {M : Type 1} → statement M
-enter-spec = tie.close (tie.spec returns mul-counters element-write-counters add-self add-self-2 returns-2)
+enter-spec = tie.close (tie.spec returns mul-counters element-write-counters add-deeper add-place returns-2)

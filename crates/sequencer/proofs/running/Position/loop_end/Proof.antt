@@ -20,8 +20,8 @@ mul-counters c = search needs
 element-write-counters : tie.Need-element-write-counters
 element-write-counters c = search needs
 
-add-self : tie.Need-add-self
-add-self c = search needs
+add-place : tie.Need-add-place
+add-place c = search needs
 
 returns : tie.Need-returns
 returns c = λ d.
@@ -51,7 +51,7 @@ loop-end-spec =
     element-copy-out-counter
     mul-counters
     element-write-counters
-    add-self
+    add-place
     returns
     sub-counters
     mul-counters-2
