@@ -42,8 +42,8 @@ use Rattle.script.specs.Refusals.{recordFault, scriptRefusal}
 use Rattle.semantics.specs.OwnRun.{scriptRun}
 use Rattle.semantics.specs.World.{readLogged, sharesOne, tested, valueRead, written}
 use Rattle.sequencer.specs.Run.{imageRun}
-use Rattle.sequencer.specs.Step.{did, stepOf, wordFault}
-use Rattle.sequencer.specs.Word.{badWord}
+use Rattle.machine.specs.Step.{did, stepOf, wordFault}
+use Rattle.machine.specs.Word.{badWord}
 use Rattle.correct.specs.Cases.{cases, every, p1, p2, p3, p4, p5, p6, p7, p8, p9, p10, p11}
 
 pub all-hold : every cases ≡ true

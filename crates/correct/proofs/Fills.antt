@@ -5,7 +5,7 @@ use mathlib.Core.List.{List, [], _∷_, _++_}
 use native.Mathlib.Decide.{decLe}
 use native.Mathlib.Omega.{arith}
 use lib.ListN.{drop, drop-of-length-le, length, length-drop, take}
-use Rattle.sequencer.specs.Run.{filled}
+use Rattle.machine.specs.Step.{filled}
 
 take-front : (vs ys : List ℕ) → take (length vs) (vs ++ ys) ≡ vs
 take-front [] ys = refl

@@ -4,7 +4,7 @@ use mathlib.Core.Path.{_≡_, ap, _∙_}
 use mathlib.Core.List.{List}
 use native.Mathlib.Omega.{arith}
 use Rattle.sequencer.specs.Run.{ended, follow, ran}
-use Rattle.sequencer.specs.Step.{Machine, goesOn, halts, stepOf}
+use Rattle.machine.specs.Step.{Machine, goesOn, halts, stepOf}
 
 -- from a machine, with so many steps made, to a machine, with so many; the counts are the run's own, so nothing is added up
 pub data Reach (image : List ℕ) (room : ℕ) : ℕ → Machine → ℕ → Machine → Type 0 where

@@ -17,8 +17,9 @@ use Rattle.mask.proofs.Every.{and-left, and-right}
 use Rattle.script.proofs.Flat.{accepts}
 use Rattle.script.specs.Refusals.{Refusal, refusal, scriptRefusal, wordsIn}
 use Rattle.semantics.specs.OwnRun.{Run, scriptRun}
-use Rattle.sequencer.specs.Run.{Ended, answerOf, badImage, eventsRefusal, filled, imageRun, logAfter, runAnswer, runRefusal, runRefused}
-use Rattle.sequencer.specs.Sequencer.{freshSequencer, sequencerInRange}
+use Rattle.sequencer.specs.Run.{Ended, answerOf, badImage, eventsRefusal, imageRun, logAfter, runAnswer, runRefusal, runRefused}
+use Rattle.machine.specs.Step.{filled}
+use Rattle.machine.specs.Sequencer.{freshSequencer, sequencerInRange}
 use Rattle.sequencer.specs.declared.Ran.{Ran}
 use Rattle.correct.specs.Demand3.{Bytes, wordsWritten}
 use Rattle.correct.specs.Whole.{ownEnd, suffices, wholeAnswer, wholeEnd, wholeLog, wholeRefusal}

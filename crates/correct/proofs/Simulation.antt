@@ -13,8 +13,8 @@ use Rattle.script.proofs.Loops.{fieldsWithin, loopsWithin}
 use Rattle.script.specs.Nested.{Body, done, write, read, delay, repeat, if, ifElse}
 use Rattle.semantics.specs.OwnRun.{Run, counted, counts, ownRun, turns}
 use Rattle.semantics.specs.World.{delayed, readLogged, sharesOne, tested, written}
-use Rattle.sequencer.specs.Step.{machine}
-use Rattle.sequencer.specs.Word.{imageWords, wordAt}
+use Rattle.machine.specs.Step.{machine}
+use Rattle.machine.specs.Word.{imageWords, wordAt}
 use Rattle.correct.proofs.Follows.{Reach, here, step, then}
 use Rattle.correct.proofs.Grows.{grows, lines, read-lines, turns-grow}
 use Rattle.correct.proofs.Steps.{step-again, step-delay, step-enter, step-jump, step-out, step-past, step-read, step-test, step-write}

@@ -11,8 +11,8 @@ use lib.ListN.{length}
 use Rattle.compiler.specs.Words.{halt, word}
 use Rattle.record.specs.declared.Record.{Record}
 use Rattle.semantics.specs.World.{World, delayed, readLogged, sharesOne, tested, written}
-use Rattle.sequencer.specs.Step.{Machine, did, goesOn, halts, machine, stepOf, taken, wordFault}
-use Rattle.sequencer.specs.Word.{badWord, imageWords, wordAt}
+use Rattle.machine.specs.Step.{Machine, did, goesOn, halts, machine, stepOf, taken, wordFault}
+use Rattle.machine.specs.Word.{badWord, imageWords, wordAt}
 use Rattle.width.specs.Width.{fitsWidth, isWidth}
 
 not-zero : (n : ℕ) → eqb (suc n) 0 ≡ false

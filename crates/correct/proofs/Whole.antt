@@ -24,9 +24,9 @@ use Rattle.script.specs.Refusals.{scriptRefusal, wordsIn}
 use Rattle.semantics.specs.OwnRun.{ownRun, run, scriptRun}
 use Rattle.semantics.specs.World.{startWorld}
 use Rattle.sequencer.specs.Run.{badImage, ended, eventsRefusal, imageRun, runRefusal}
-use Rattle.sequencer.specs.Sequencer.{freshSequencer, sequencerInRange}
-use Rattle.sequencer.specs.Step.{machine}
-use Rattle.sequencer.specs.Word.{imageWords}
+use Rattle.machine.specs.Sequencer.{freshSequencer, sequencerInRange}
+use Rattle.machine.specs.Step.{machine}
+use Rattle.machine.specs.Word.{imageWords}
 use Rattle.correct.specs.Demand3.{Bytes, wordsWritten}
 use Rattle.correct.proofs.Follows.{halts-there}
 use Rattle.correct.proofs.Ports.{ports-within, portsWithin}

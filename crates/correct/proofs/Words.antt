@@ -16,7 +16,7 @@ use Rattle.record.specs.Record.{bytesOf, recordAt}
 use Rattle.record.specs.declared.Record.{Record}
 use Rattle.script.proofs.Loops.{fieldsWithin}
 use Rattle.script.specs.Nested.{Body, done, write, read, delay, repeat, if, ifElse}
-use Rattle.sequencer.specs.Word.{imageWords, wordAt}
+use Rattle.machine.specs.Word.{imageWords, wordAt}
 use Rattle.width.specs.Width.{allOnes, fitsWidth, isWidth}
 use Rattle.correct.proofs.Ports.{portsWithin}
 

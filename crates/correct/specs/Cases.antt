@@ -35,7 +35,7 @@ use Rattle.record.specs.declared.Record.{Record}
 use Rattle.script.specs.Refusals.{scriptRefusal}
 use Rattle.semantics.specs.OwnRun.{scriptRun}
 use Rattle.sequencer.specs.Run.{imageRun}
-use Rattle.sequencer.specs.Sequencer.{freshSequencer}
+use Rattle.machine.specs.Sequencer.{freshSequencer}
 
 -- ---- accesses, events, and what is looked at afterwards
 abbrev reading : Device → ℕ → ℕ → Reached

@@ -14,7 +14,7 @@ use Rattle.script.specs.Records.{recordsOf}
 use Rattle.script.specs.Refusals.{badLength, firstFault, scriptRefusal, wordsIn}
 use Rattle.semantics.specs.OwnRun.{Run, scriptRun}
 use Rattle.sequencer.specs.Run.{Ended, eventsRefusal, imageRun, logAfter, runAnswer}
-use Rattle.sequencer.specs.Sequencer.{freshSequencer}
+use Rattle.machine.specs.Sequencer.{freshSequencer}
 use Rattle.sequencer.specs.declared.Ran.{Ran}
 
 -- a script is bytes: of a `&[u8]` that is a fact, so the call `compile_and_run` has no such premise

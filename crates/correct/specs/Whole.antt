@@ -9,9 +9,10 @@ use Rattle.device.specs.Device.{deviceInRange}
 use Rattle.device.specs.declared.Device.{Device}
 use Rattle.script.specs.Refusals.{Refusal, refusal, scriptRefusal, wordsIn}
 use Rattle.semantics.specs.OwnRun.{Run, scriptRun}
-use Rattle.sequencer.specs.Run.{Ended, answerOf, ended, eventsRefusal, filled, imageRun, runRefused}
-use Rattle.sequencer.specs.Sequencer.{freshSequencer}
-use Rattle.sequencer.specs.Step.{machine}
+use Rattle.sequencer.specs.Run.{Ended, answerOf, ended, eventsRefusal, imageRun, runRefused}
+use Rattle.machine.specs.Step.{filled}
+use Rattle.machine.specs.Sequencer.{freshSequencer}
+use Rattle.machine.specs.Step.{machine}
 use Rattle.sequencer.specs.declared.Ran.{Ran}
 
 -- the compiler's refusals 1 to 8, then 11 for the device, then 12

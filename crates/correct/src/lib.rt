@@ -1,13 +1,13 @@
 // A script compiled and run in one call. The rest of this crate is claims: document 01's cases and demand 3, in specs/ and
 // proofs/.
 use device::Device;
+use machine::Sequencer;
 use sequencer::Ran;
-use sequencer::Sequencer;
 ghost use mathlib.Core.Path.{_≡_};
 ghost use Prim.Native.Nat.{_*_, _≤_};
 ghost use lib.ListN.{length, take};
 ghost use Rattle.sequencer.specs.Run.{runAnswer, logAfter};
-ghost use Rattle.sequencer.specs.Sequencer.{freshSequencer};
+ghost use Rattle.machine.specs.Sequencer.{freshSequencer};
 ghost use Rattle.correct.specs.Whole.{wholeAnswer, wholeLog};
 
 fn index(words: u32) -> usize

@@ -3,8 +3,8 @@ use crate::held::Held;
 use device::Device;
 use device::Outputs;
 use libc::STDOUT_FILENO;
+use machine::Sequencer;
 use sequencer::Ran;
-use sequencer::Sequencer;
 
 fn write(line: &[u8], end: usize) {
     if end <= line.len() {

@@ -1,6 +1,6 @@
 // What is held from one command to the next.
 use device::Device;
-use sequencer::Sequencer;
+use machine::Sequencer;
 
 pub struct Held {
     pub device: Device,

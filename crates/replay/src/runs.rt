@@ -2,8 +2,8 @@
 use crate::answer;
 use crate::held::Held;
 use crate::strings;
+use machine::Sequencer;
 use sequencer::Ran;
-use sequencer::Sequencer;
 
 fn unread(held: Held) -> Held {
     answer::unread();

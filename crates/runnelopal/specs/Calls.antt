@@ -12,7 +12,7 @@ use Rattle.device.specs.declared.Outputs.{Outputs}
 use Rattle.device.specs.declared.lone.Accessed.{Accessed}
 use Rattle.device.specs.declared.lone.Happened.{Happened}
 use Rattle.sequencer.specs.Run.{runAnswer}
-use Rattle.sequencer.specs.Sequencer.{freshSequencer}
+use Rattle.machine.specs.Sequencer.{freshSequencer}
 use Rattle.sequencer.specs.declared.Ran.{Ran}
 use Rattle.state.specs.State.{bit, loaded, saved}
 

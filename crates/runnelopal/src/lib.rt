@@ -5,8 +5,8 @@ use device::Device;
 use device::Outputs;
 use device::lone::Accessed;
 use device::lone::Happened;
+use machine::Sequencer;
 use sequencer::Ran;
-use sequencer::Sequencer;
 ghost use mathlib.Core.Path.{_≡_};
 ghost use mathlib.Core.List.{[], _∷_};
 ghost use mathlib.Core.Bool.{cond};
@@ -16,7 +16,7 @@ ghost use lib.ListN.{length, set};
 ghost use Rattle.compiler.specs.Compile.{compiled, imageAfter};
 ghost use Rattle.device.specs.Device.{freshDevice};
 ghost use Rattle.sequencer.specs.Run.{logAfter};
-ghost use Rattle.sequencer.specs.Sequencer.{freshSequencer};
+ghost use Rattle.machine.specs.Sequencer.{freshSequencer};
 ghost use Rattle.state.specs.State.{bit, saved};
 ghost use Rattle.runnelopal.specs.Calls.{
   numbered,

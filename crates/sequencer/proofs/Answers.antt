@@ -11,7 +11,7 @@ use Rattle.device.specs.Device.{deviceInRange}
 use Rattle.device.specs.declared.Device.{Device}
 use Rattle.mask.proofs.Every.{and-left, and-right}
 use Rattle.script.specs.Refusals.{refusal}
-use Rattle.sequencer.specs.Holds.{EndsAs}
+use Rattle.sequencer.specs.Ends.{EndsAs}
 use Rattle.sequencer.specs.Run.{
   asRefused,
   badImage,
@@ -23,12 +23,12 @@ use Rattle.sequencer.specs.Run.{
   runRefusal,
   runRefused,
 }
-use Rattle.sequencer.specs.Sequencer.{sequencerInRange}
-use Rattle.sequencer.specs.Word.{imageWords}
+use Rattle.machine.specs.Sequencer.{sequencerInRange}
+use Rattle.machine.specs.Word.{imageWords}
 use Rattle.sequencer.specs.declared.Ran.{Ran}
 use Rattle.sequencer.specs.declared.Refused.{Refused}
-use Rattle.sequencer.specs.declared.Sequencer.{Sequencer}
-use Rattle.sequencer.proofs.Faults.{or-right}
+use Rattle.machine.specs.declared.Sequencer.{Sequencer}
+use Rattle.machine.proofs.Faults.{or-right}
 
 pub refused :
     (image : List ℕ) (d : Device) (s : Sequencer) (events : List ℕ) (budget : ℕ) (log : List ℕ) (f : Refused)

@@ -10,14 +10,15 @@ use Rattle.device.specs.declared.Device.{Device}
 use Rattle.record.specs.Record.{recordAt}
 use Rattle.record.specs.declared.Record.{Record}
 use Rattle.semantics.specs.World.{startWorld}
-use Rattle.sequencer.specs.Holds.{Does, EndsAs, Holds, Running, Starts, answer, running}
+use Rattle.machine.specs.Holds.{Does, Holds, Running, running}
+use Rattle.sequencer.specs.Ends.{EndsAs, Starts, answer}
 use Rattle.sequencer.specs.Run.{Ended, ended, follow, imageRun, ran}
-use Rattle.sequencer.specs.Sequencer.{countersOf, laid}
-use Rattle.sequencer.specs.Step.{Machine, did, faultAt, machine, stepOf, taken, wordFault}
-use Rattle.sequencer.specs.Word.{imageWords, wordAt}
+use Rattle.machine.specs.Sequencer.{countersOf, laid}
+use Rattle.machine.specs.Step.{Machine, did, faultAt, machine, stepOf, taken, wordFault}
+use Rattle.machine.specs.Word.{imageWords, wordAt}
 use Rattle.sequencer.specs.declared.Ran.{Ran}
-use Rattle.sequencer.specs.declared.Sequencer.{Sequencer}
-use Rattle.sequencer.specs.declared.running.Position.{Position}
+use Rattle.machine.specs.declared.Sequencer.{Sequencer}
+use Rattle.machine.specs.declared.running.Position.{Position}
 
 pub record Going (image : List ℕ) (whole : Ended) (events lent : List ℕ) (budget : ℕ) (log : List ℕ) (x : Running) (steps : ℕ)
     : Type 0 where

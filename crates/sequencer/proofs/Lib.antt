@@ -1,7 +1,4 @@
-pub mod Events
-pub mod Laid
-pub mod EachKind
-pub mod Faults
+pub mod FirstBad
 pub mod Going
 pub mod Answers
 pub mod Range

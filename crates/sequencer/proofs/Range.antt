@@ -30,8 +30,8 @@ use Rattle.semantics.specs.World.{
   written,
 }
 use Rattle.sequencer.specs.Run.{Ended, answerOf, follow, imageRun, ran, runAnswer, runRefusal}
-use Rattle.sequencer.specs.Sequencer.{countersOf, sequencerInRange}
-use Rattle.sequencer.specs.Step.{
+use Rattle.machine.specs.Sequencer.{countersOf, sequencerInRange}
+use Rattle.machine.specs.Step.{
   Machine,
   Step,
   aimsBeyond,
@@ -49,12 +49,12 @@ use Rattle.sequencer.specs.Step.{
   stepOf,
   wordFault,
 }
-use Rattle.sequencer.specs.Word.{badWord, imageWords, wordAt}
+use Rattle.machine.specs.Word.{badWord, imageWords, wordAt}
 use Rattle.sequencer.specs.declared.Ran.{Ran}
-use Rattle.sequencer.specs.declared.Sequencer.{Sequencer}
-use Rattle.sequencer.proofs.EachKind.{room-left}
-use Rattle.sequencer.proofs.Faults.{Clean, clean, enter-room, enter-value, read-room}
-use Rattle.sequencer.proofs.Laid.{AllCount, counters-in-range, laid-in-range, used-few, used-length}
+use Rattle.machine.specs.declared.Sequencer.{Sequencer}
+use Rattle.machine.proofs.EachKind.{room-left}
+use Rattle.machine.proofs.Faults.{Clean, clean, enter-room, enter-value, read-room}
+use Rattle.machine.proofs.Laid.{AllCount, counters-in-range, laid-in-range, used-few, used-length}
 
 -- ---- what every step keeps, a run keeps
 -- a step that goes on is what a word without a fault does

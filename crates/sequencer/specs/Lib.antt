@@ -1,5 +1,2 @@
-pub mod Word
-pub mod Step
-pub mod Sequencer
 pub mod Run
-pub mod Holds
+pub mod Ends

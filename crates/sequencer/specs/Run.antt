@@ -1,20 +1,20 @@
 -- Document 01, "Scripts and images": the run, its refusals and its endings.
 use Prim.Native.Nat.{ℕ, zero, suc, _-_, _%_}
 use mathlib.Core.Bool.{Bool, cond, not, _&&_, _||_}
-use mathlib.Core.List.{List, [], _∷_, _++_}
+use mathlib.Core.List.{List, [], _∷_}
 use lib.Dec.{eqb, ltb}
-use lib.ListN.{drop, length}
+use lib.ListN.{length}
 use Rattle.device.specs.Device.{deviceInRange}
 use Rattle.device.specs.Event.{isEvent}
 use Rattle.device.specs.declared.Device.{Device}
 use Rattle.script.specs.Refusals.{Refusal, refusal}
 use Rattle.semantics.specs.World.{startWorld}
-use Rattle.sequencer.specs.Sequencer.{countersOf, sequencerAt, sequencerInRange}
-use Rattle.sequencer.specs.Step.{Machine, Step, goesOn, halts, faults, machine, stepOf}
-use Rattle.sequencer.specs.Word.{imageWords}
+use Rattle.machine.specs.Sequencer.{countersOf, sequencerAt, sequencerInRange}
+use Rattle.machine.specs.Step.{Machine, Step, faults, filled, goesOn, halts, machine, stepOf}
+use Rattle.machine.specs.Word.{imageWords}
 use Rattle.sequencer.specs.declared.Ran.{Ran}
 use Rattle.sequencer.specs.declared.Refused.{Refused}
-use Rattle.sequencer.specs.declared.Sequencer.{Sequencer}
+use Rattle.machine.specs.declared.Sequencer.{Sequencer}
 
 -- how a run ends: the outcome, the words executed, and the machine as they left it
 pub record Ended : Type 0 where
@@ -101,10 +101,6 @@ runAnswer image d s events budget log =
     cond (eqb (runRefusal image d s events .number) 0)
     (answerOf events (imageRun image d s events budget (length log)))
     (runRefused (runRefusal image d s events) d s)
-
--- "The log fills from its front; the rest stays as lent."
-abbrev pub filled : List ℕ → List ℕ → List ℕ
-filled values lent = values ++ drop (length values) lent
 
 unfoldable pub logAfter : List ℕ → Device → Sequencer → List ℕ → ℕ → List ℕ → List ℕ
 logAfter image d s events budget log =

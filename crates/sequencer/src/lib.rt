@@ -1,15 +1,15 @@
 // The sequencer: runs an image on a device.
-mod running;
-mod word;
-
-use crate::running::Position;
 use access::Answer;
 use device::Device;
+use machine::Sequencer;
+use machine::running;
+use machine::running::Position;
+use machine::word;
 ghost use mathlib.Core.Path.{_≡_};
 ghost use mathlib.Core.Bool.{true};
 ghost use Prim.Native.Nat.{_+_, _<_, _≤_};
 ghost use lib.ListN.{length};
-ghost use Rattle.sequencer.specs.Sequencer.{freshSequencer, counterInRange, sequencerInRange, countersOf, laid};
+ghost use Rattle.machine.specs.Sequencer.{sequencerInRange, countersOf, laid};
 ghost use Rattle.sequencer.specs.Run.{
   isRefusal,
   badImage,
@@ -21,15 +21,9 @@ ghost use Rattle.sequencer.specs.Run.{
   imageRun,
   asRefused,
 };
-ghost use Rattle.sequencer.specs.Word.{imageWords};
-ghost use Rattle.sequencer.specs.Holds.{Starts, EndsAs, answer, running};
-
-// The place of the next word, and the loop counters, bottom first: `used` of them are in use, and the rest are 0.
-pub struct Sequencer {
-    pub place: u32,
-    pub counters: [u32; 8],
-    pub used: usize,
-}
+ghost use Rattle.machine.specs.Word.{imageWords};
+ghost use Rattle.machine.specs.Holds.{running};
+ghost use Rattle.sequencer.specs.Ends.{Starts, EndsAs, answer};
 
 // The answer to a run: the outcome is how it ended, or a refusal's number with its place.
 pub struct Ran {
@@ -64,48 +58,6 @@ pub fn is_refusal(outcome: u32) -> bool
         return false;
     }
     outcome < BUDGET_SPENT
-}
-
-// ---- the state
-
-fn counter_in_range(used: usize, k: usize, counter: u32) -> bool
-    ensures { λ r. ⌜ r ≡ counterInRange used k counter ⌝ }
-{
-    if k < used {
-        if counter < 1 {
-            return false;
-        }
-        return counter <= 65535;
-    }
-    counter == 0
-}
-
-impl Sequencer {
-    pub fn fresh() -> Self
-        ensures { λ r. ⌜ r ≡ freshSequencer ⌝ }
-    {
-        Sequencer {
-            place: 0,
-            counters: [0; 8],
-            used: 0,
-        }
-    }
-
-    pub fn in_range(self) -> bool
-        ensures { λ r. ⌜ r ≡ sequencerInRange self ⌝ }
-    {
-        let used = self.used;
-        let counters = self.counters;
-        if 8 < used {
-            return false;
-        }
-        for k in 0..8 {
-            if !counter_in_range(used, k, counters[k]) {
-                return false;
-            }
-        }
-        true
-    }
 }
 
 // ---- the refusals

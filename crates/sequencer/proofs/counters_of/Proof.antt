@@ -1,5 +1,5 @@
 -- `sequencer::counters_of` meets its contract. Assumes nothing.
-use Rattle.sequencer.proofs.Laid.{counters-laid}
+use Rattle.machine.proofs.Laid.{counters-laid}
 use borrow.Author.Needs.{needs}
 use Rattle.sequencer.proofs.counters_of.Statement.{statement}
 use Rattle.sequencer.proofs.counters_of.Tie as tie

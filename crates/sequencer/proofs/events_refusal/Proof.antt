@@ -1,7 +1,7 @@
 -- `sequencer::events_refusal` meets its contract. Assumes nothing.
 use borrow.Author.Needs.{scaled-fits}
 use borrow.Author.Tests.{not-true, not-false}
-use Rattle.sequencer.proofs.Events.{bad-here, bad-further, bad-none}
+use Rattle.sequencer.proofs.FirstBad.{bad-here, bad-further, bad-none}
 use Rattle.sequencer.specs.Run.{eventsRefusal, firstBadEvent}
 use borrow.Author.Needs.{needs}
 use native.Mathlib.Omega.{arith}

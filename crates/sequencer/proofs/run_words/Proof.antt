@@ -13,9 +13,9 @@ use Rattle.device.proofs.Ticks.{delays}
 use Rattle.device.specs.Device.{settledDevice, withAcpi}
 use Rattle.device.specs.Reach.{accessed, reach, reached}
 use Rattle.semantics.specs.World.{nextApplied}
-use Rattle.sequencer.proofs.EachKind.{delayed-by}
-use Rattle.sequencer.proofs.Events.{next-none, next-there}
-use Rattle.sequencer.proofs.Faults.{can-access, can-delay, can-turn}
+use Rattle.machine.proofs.EachKind.{delayed-by}
+use Rattle.machine.proofs.Events.{next-none, next-there}
+use Rattle.machine.proofs.Faults.{can-access, can-delay, can-turn}
 use Rattle.sequencer.proofs.Going.{
   Going,
   Looked,
@@ -27,10 +27,11 @@ use Rattle.sequencer.proofs.Going.{
   spent,
   starts,
 }
-use Rattle.sequencer.specs.Holds.{Does, Running, Starts, running}
+use Rattle.machine.specs.Holds.{Does, Running, running}
+use Rattle.sequencer.specs.Ends.{Starts}
 use Rattle.sequencer.specs.Run.{imageRun}
-use Rattle.sequencer.specs.Sequencer.{countersOf, laid}
-use Rattle.sequencer.specs.declared.Sequencer.{Sequencer}
+use Rattle.machine.specs.Sequencer.{countersOf, laid}
+use Rattle.machine.specs.declared.Sequencer.{Sequencer}
 use Rattle.sequencer.proofs.run_words.Statement.{statement}
 use Rattle.sequencer.proofs.run_words.Tie as tie
 

@@ -1,0 +1,4 @@
+pub mod Events
+pub mod Laid
+pub mod EachKind
+pub mod Faults

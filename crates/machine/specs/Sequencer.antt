@@ -1,0 +1,40 @@
+-- Document 01, "Scripts and images": the sequencer's state and its range. "at most 8 counters, those in use 1 to 65,535, the
+-- rest 0"
+use Prim.Native.Nat.{ℕ, zero, suc, _-_}
+use mathlib.Core.Bool.{Bool, cond, _&&_}
+use mathlib.Core.List.{List, [], _∷_}
+use lib.Dec.{eqb, leb, ltb}
+use lib.ListN.{getD, length}
+use Rattle.mask.specs.Every.{allBelow}
+use Rattle.script.specs.Scan.{stackOf}
+use Rattle.machine.specs.declared.Sequencer.{Sequencer}
+
+abbrev pub zeros : ℕ → List ℕ
+zeros zero = []
+zeros (suc n) = 0 ∷ zeros n
+
+-- place 0, no counter in use
+abbrev pub freshSequencer : Sequencer
+freshSequencer = record { place = 0; counters = zeros 8; used = 0 }
+
+abbrev pub counterInRange : (used k counter : ℕ) → Bool
+counterInRange used k c = cond (ltb k used) (leb 1 c && leb c 65535) (eqb c 0)
+
+-- any place is in range: beyond the last word it is 21
+unfoldable pub sequencerInRange : Sequencer → Bool
+sequencerInRange s = leb (s .used) 8 && allBelow 8 (λ k. counterInRange (s .used) k (getD (s .counters) k 0))
+
+-- the counters in use, top first
+abbrev pub countersOf : Sequencer → List ℕ
+countersOf s = stackOf (s .used) (s .counters)
+
+-- counters in use laid bottom first in front of the rest
+abbrev pub laidOn : List ℕ → List ℕ → List ℕ
+laidOn [] rest = rest
+laidOn (c ∷ cs) rest = laidOn cs (c ∷ rest)
+
+abbrev pub laid : List ℕ → List ℕ
+laid cs = laidOn cs (zeros (8 - length cs))
+
+abbrev pub sequencerAt : ℕ → List ℕ → Sequencer
+sequencerAt place cs = record { place = place; counters = laid cs; used = length cs }
