@@ -1,4 +1,4 @@
--- Events and settling change the pin levels and what `Moved` has, and nothing else of the block. Assumes nothing.
+-- Settling and events other than resets change the pin levels and what `Moved` has, and nothing else of the block. Assumes nothing.
 use Prim.Native.Nat.{ℕ, _+_, _%_, _^_}
 use mathlib.Core.Path.{_≡_, refl, ap}
 use mathlib.Core.Bool.{Bool, true, false}

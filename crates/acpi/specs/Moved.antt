@@ -1,4 +1,4 @@
--- What events and settling can change of the ACPI block beside the pin levels, and the block with it.
+-- What settling and an event other than a reset can change of the ACPI block, the pin levels aside, and the block with it.
 use mathlib.Core.Bool.{Bool}
 use mathlib.Core.List.{List}
 use Rattle.acpi.specs.declared.Acpi.{Acpi}

@@ -39,7 +39,7 @@ ghost use Rattle.acpi.specs.Moved.{movedOf};
 ghost use Rattle.acpi.specs.Settle.{pending, sciOn, smiOn, wokenStatus, settled};
 ghost use Rattle.acpi.specs.Happen.{ticked, mapped, pinned};
 
-// The arrays first and then the widest field, so that there is no gap: a struct is copied with its gaps.
+// The arrays first and then the widest field, so that there is no gap inside: a struct is copied with its gaps.
 pub struct Acpi {
     // The map of each pin, which stands behind SETUP_DATA, and its level.
     pub maps: [u16; 8],
@@ -72,7 +72,7 @@ pub struct Written {
     pub acpi: Acpi,
 }
 
-// What events and settling can change of the block, but for the pin levels.
+// What settling and an event other than a reset can change of the block, the pin levels aside.
 pub struct Moved {
     pub pm1sts: u16,
     pub gpe0sts: u16,
@@ -106,17 +106,17 @@ impl Acpi {
 
     pub const RTC_STS: u16 = 0x0400;
 
-    pub const BUTTON_STS: u16 = 0x0800;
+    pub const PWRBTNOR_STS: u16 = 0x0800;
 
-    pub const BIT_8_STS: u16 = 0x0100;
+    pub const PWRBTN_STS: u16 = 0x0100;
 
-    pub const BIT_9_STS: u16 = 0x0200;
+    pub const SLPBTN_STS: u16 = 0x0200;
 
     pub const WAKE_STS: u16 = 0x8000;
     // SCI_EN as PM1a_CNT reads it.
     pub const SCI_EN: u16 = 0x0001;
     // Bit 13 of PM1a_CNT, written 1, puts the chip to sleep.
-    pub const SLEEP: u32 = 0x2000;
+    pub const SLP_EN: u32 = 0x2000;
 
     pub const IRQ_RESET: u8 = 9;
 
@@ -275,10 +275,10 @@ impl Acpi {
     {
         let target = value % 256;
         if target == 0x08 {
-            return self.raise(Acpi::BIT_8_STS);
+            return self.raise(Acpi::PWRBTN_STS);
         }
         if target == 0x09 {
-            return self.raise(Acpi::BIT_9_STS);
+            return self.raise(Acpi::SLPBTN_STS);
         }
         if map::is_gpe_target(target) {
             self.gpe0sts = self.gpe0sts | map::gpe_bit(target);
@@ -402,7 +402,7 @@ impl Acpi {
         ensures { λ r. ⌜ r ≡ controlWritten self value ⌝ }
     {
         self.pm1cnt = mask::masked16(value, Acpi::PM1CNT_MASK);
-        if value & Acpi::SLEEP != 0 {
+        if value & Acpi::SLP_EN != 0 {
             self.sleeping = true;
             return wrote(Answer::DONE, self);
         }

@@ -67,7 +67,7 @@ fn status_bit(kind: u32) -> u16
         return Acpi::BM_STS;
     }
     if kind == BUTTON {
-        return Acpi::BUTTON_STS;
+        return Acpi::PWRBTNOR_STS;
     }
     0
 }
@@ -85,6 +85,7 @@ fn acpi_moved(acpi: Acpi, kind: u32, operand: u32) -> Acpi
     acpi.raise(status_bit(kind))
 }
 
+// All events but sensors and resets are of the ACPI block alone.
 pub fn moves_acpi(number: u32) -> bool
     ensures { λ r. ⌜ r ≡ movesAcpi number ⌝ }
 {
@@ -95,7 +96,7 @@ pub fn moves_acpi(number: u32) -> bool
     kind != RESET
 }
 
-// What such an event and its settling change of the block.
+// What such an event and its settling change of the block, the pin levels aside.
 pub fn acpi_happened(acpi: Acpi, number: u32) -> Moved
     ensures { λ r. ⌜ r ≡ movedOf (settled (acpiMoved acpi (kindOf number) (operandOf number))) ⌝ }
 {

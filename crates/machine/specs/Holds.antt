@@ -63,18 +63,19 @@ Moves word events x y = (log : List ℕ) → Does word events x log y log
 abbrev pub TakesNone : Record → Running → Running → Type 0
 TakesNone word x y = (events : List ℕ) → Moves word events x y
 
--- and it leaves the device alone: the place and the counters move
+-- the position where such a word leads
 abbrev pub turnedTo : Position → Turned → Position
 turnedTo x y = record { used = y .used; taken = x .taken; logged = x .logged; place = y .place }
 
+-- and it leaves the device alone: the place and the counters move
 abbrev pub MovesAlone : Record → Position → List ℕ → Turned → List ℕ → Type 0
 MovesAlone word x cs y cs' = (d : Device) → TakesNone word (running d x cs) (running d (turnedTo x y) cs')
 
--- and the counters too
+-- and it leaves the counters alone too
 abbrev pub MovesPlace : Record → Position → Turned → Type 0
 MovesPlace word x y = (cs : List ℕ) → MovesAlone word x cs y cs
 
--- what the words ask that move the position alone, and those that access the device: they are asked only of words without a fault
+-- what the words ask that move the place and the counters alone, and those that access the device: they are asked only of words without a fault
 pub record CanTurn (x : Position) (word : Record) : Type 0 where
   pub enters : word .kind ≡ 4 → 8 ≤ x .used → word .value ≡ 0
   pub loops : word .kind ≡ 5 → 0 < x .used

@@ -61,8 +61,8 @@ pub fn access_of(word: Record) -> Access
 
 // ---- words that move the place and the counters alone
 
-// Where such a word leads. What the run has taken and logged is not handed round: to copy a number that was just stored, together
-// with its neighbour, is to wait for it.
+// Where such a word leads. What the run has taken and logged is not handed round: a copy that holds a number just stored makes the
+// processor wait for that store.
 pub struct Turned {
     pub used: usize,
     pub place: u32,

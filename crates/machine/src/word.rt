@@ -150,7 +150,7 @@ pub fn fault(words: u32, room: usize, used: usize, logged: usize, r: Record) -> 
     0
 }
 
-// A word that moves the position alone: an enter, a loop end, a jump.
+// A word that moves the place and the counters alone: an enter, a loop end, a jump.
 pub fn turns(r: Record) -> bool
     ensures { λ b. ⌜ b ≡ turns r ⌝ }
 {

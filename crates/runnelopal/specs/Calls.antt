@@ -11,7 +11,7 @@ use Rattle.device.specs.declared.Device.{Device}
 use Rattle.device.specs.declared.Outputs.{Outputs}
 use Rattle.device.specs.declared.lone.Accessed.{Accessed}
 use Rattle.device.specs.declared.lone.Happened.{Happened}
-use Rattle.sequencer.specs.Run.{runAnswer}
+use Rattle.sequencer.specs.Run.{isRefusal, runAnswer}
 use Rattle.machine.specs.Sequencer.{freshSequencer}
 use Rattle.sequencer.specs.declared.Ran.{Ran}
 use Rattle.state.specs.State.{bit, loaded, saved}
@@ -27,6 +27,10 @@ freshRun image events budget log = runAnswer image freshDevice freshSequencer ev
 
 abbrev pub runNumbers : Ran → List ℕ
 runNumbers r = r .place ∷ r .steps ∷ r .taken ∷ r .logged ∷ r .sequencer .place ∷ []
+
+-- a refused run leaves the state as it was
+abbrev pub keptRun : ℕ → Device → List ℕ → List ℕ
+keptRun outcome d state = cond (isRefusal outcome) state (saved d state)
 
 abbrev pub outputNumbers : Outputs → List ℕ
 outputNumbers o = bit (o .sci) ∷ bit (o .smi) ∷ bit (o .monitor) ∷ []

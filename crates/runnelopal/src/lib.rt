@@ -29,6 +29,7 @@ ghost use Rattle.runnelopal.specs.Calls.{
   eventNumbers,
   savedEvent,
   kept,
+  keptRun,
 };
 
 fn put(answer: &mut [u64], at: usize, number: u64)
@@ -82,6 +83,15 @@ fn put_run(answer: &mut [u64], r: Ran)
     put(answer, 4, sequencer.place as u64);
 }
 
+// A refused run leaves the state as it was.
+fn keep_run(state: &mut [u8], outcome: u32, device: Device)
+    ensures { λ _. ⌜ now (state .exit) ≡ keptRun outcome device (now (state .entry)) ⌝ }
+{
+    if !sequencer::is_refusal(outcome) {
+        state::save(device, state);
+    }
+}
+
 // Runs an image on a fresh device from a fresh sequencer, and leaves the device's state in a lent slice of 106 bytes. Numbers:
 // the place of a refusal, the steps, the events taken, the values logged, the place of the sequencer.
 #[no_mangle]
@@ -94,14 +104,14 @@ pub extern "C" fn runnelopal_run(
     answer: &mut [u64],
 ) -> u32
     ensures { λ r. ⌜ (r ≡ freshRun (now (image .entry)) (now (events .entry)) budget (now (log .entry)) .outcome) × (now (log .exit) ≡ logAfter (now (image .entry)) freshDevice freshSequencer (now (events .entry)) budget (now (log .entry))) ⌝ }
-    ensures { λ _. ⌜ now (state .exit) ≡ saved (freshRun (now (image .entry)) (now (events .entry)) budget (now (log .entry)) .device) (now (state .entry)) ⌝ }
+    ensures { λ _. ⌜ now (state .exit) ≡ keptRun (freshRun (now (image .entry)) (now (events .entry)) budget (now (log .entry)) .outcome) (freshRun (now (image .entry)) (now (events .entry)) budget (now (log .entry)) .device) (now (state .entry)) ⌝ }
     ensures { λ _. ⌜ now (answer .exit) ≡ numbered 0 (runNumbers (freshRun (now (image .entry)) (now (events .entry)) budget (now (log .entry)))) (now (answer .entry)) ⌝ }
 {
     let device = Device::fresh();
     let fresh = Sequencer::fresh();
     let r = sequencer::run(image, device, fresh, events, budget, log);
     let next = r.device;
-    state::save(next, state);
+    keep_run(state, r.outcome, next);
     put_run(answer, r);
     r.outcome
 }

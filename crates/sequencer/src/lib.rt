@@ -193,7 +193,8 @@ fn counted(steps: u32) -> u32
 }
 
 // Runs the words of an image until the run ends. The device is changed in place, block by block: a function would take it by value
-// and hand it back, and a copy of it costs more than a word.
+// and hand it back, and a copy of it costs more than a word. What an event of the ACPI block and the settling of an access change is
+// stored number by number: a copy of a block right behind a store into it makes the processor wait for that store.
 fn run_words(
     image: &[u8],
     device: Device,
@@ -235,6 +236,7 @@ fn run_words(
             x.place = x.place + 1;
             steps = counted(steps);
         } else {
+            // The next event, if there is one.
             let taken = x.taken;
             if taken < events.len() {
                 let event = events[taken];
@@ -251,6 +253,7 @@ fn run_words(
                     chip = chip.happened(event);
                 }
             }
+            // The access, answered by the block that takes it.
             let access = running::access_of(word);
             let config = chip.config;
             let taker = device::owner::taker(config, access);
@@ -278,6 +281,7 @@ fn run_words(
             } else if taker == Device::KEY {
                 answer = device::reach::key_reached(config, &mut chip.key.bytes, access);
             }
+            // The settling.
             let acpi = chip.acpi;
             if acpi.pending() {
                 chip.acpi.pm1sts = acpi.woken_status();

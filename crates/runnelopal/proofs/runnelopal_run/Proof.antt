@@ -14,8 +14,8 @@ fresh-requires-2 c κs = search needs
 run-requires : tie.Need-run-requires
 run-requires c κs = search needs
 
-save-requires : tie.Need-save-requires
-save-requires c κs = search needs
+keep-run-requires : tie.Need-keep-run-requires
+keep-run-requires c κs = search needs
 
 put-run-requires : tie.Need-put-run-requires
 put-run-requires c κs = search needs
@@ -33,7 +33,7 @@ returns : tie.Need-returns
 returns c =
     let k = rw (c .before .before .before .before .before .before .before .before .before .before .before .before .before .before .fresh .ensures, c .before .before .before .before .before .before .before .before .before .before .before .before .before .fresh2 .ensures) at (c .before .before .before .before .before .before .before .before .before .before .before .run .ensures) in (
       (ap (λ (x : Ran). x .outcome) (k .0), k .1),
-      (c .before .before .before .before .before .before .save .ensures ∙ rw (k .0), c .before .before .put-run .ensures ∙ rw (k .0)),
+      (c .before .before .before .before .before .before .keep-run .ensures ∙ rw (k .0), c .before .before .put-run .ensures ∙ rw (k .0)),
     )
 
 pub runnelopal-run-spec : {M : Type 1} → statement M
@@ -43,7 +43,7 @@ runnelopal-run-spec =
     fresh-requires
     fresh-requires-2
     run-requires
-    save-requires
+    keep-run-requires
     put-run-requires
     same-length
     same-length-2
