@@ -1,4 +1,8 @@
-// Numbers and byte strings as text in a line: what the programs read and print.
+// Numbers and byte strings as text in a line: what the programs read and print. What is printed is proved; what is read has no
+// definition yet, and is compared with the independent model.
+ghost use mathlib.Core.Path.{_≡_};
+ghost use Prim.Native.Nat.{_<_};
+ghost use Rattle.digits.specs.Text.{lineAt, put, puts, hexDigit, byteText, hexText, digitText, decimalText};
 
 // One to eight hex digits: their number, and the place behind them. `ok` is false where there is no such number.
 pub struct Hex {
@@ -43,7 +47,9 @@ pub fn is_space(line: &[u8], at: usize) -> bool {
     false
 }
 
-fn wide(b: u8) -> u32 {
+fn wide(b: u8) -> u32
+    ensures { λ r. ⌜ r ≡ b ⌝ }
+{
     b as u32
 }
 
@@ -94,15 +100,19 @@ pub fn byte(line: &[u8], at: usize) -> u32 {
 }
 
 // Puts one byte of text at a place of a line, and answers the next place. A full line takes no more.
-pub fn put(line: &mut [u8], at: usize, b: u8) -> usize {
+pub fn put(line: &mut [u8], at: usize, b: u8) -> usize
+    ensures { λ r. ⌜ lineAt (now (line .exit)) r ≡ put b (lineAt (now (line .entry)) at) ⌝ }
+{
     if at < line.len() {
         line[at] = b;
-        return after(at, 1);
+        return at + 1;
     }
     at
 }
 
-fn hex_digit(n: u32) -> u8 {
+fn hex_digit(n: u32) -> u8
+    ensures { λ r. ⌜ r ≡ hexDigit n ⌝ }
+{
     let d = (n % 16) as u8;
     if d < 10 {
         return b'0' + d;
@@ -111,12 +121,18 @@ fn hex_digit(n: u32) -> u8 {
 }
 
 // Two upper-case hex digits, and eight.
-pub fn put_byte(line: &mut [u8], at: usize, b: u8) -> usize {
-    let next = put(line, at, hex_digit(wide(b) / 16));
-    put(line, next, hex_digit(wide(b)))
+pub fn put_byte(line: &mut [u8], at: usize, b: u8) -> usize
+    ensures { λ r. ⌜ lineAt (now (line .exit)) r ≡ puts (byteText b) (lineAt (now (line .entry)) at) ⌝ }
+{
+    let high = hex_digit(wide(b) / 16);
+    let low = hex_digit(wide(b));
+    let next = put(line, at, high);
+    put(line, next, low)
 }
 
-pub fn put_hex(line: &mut [u8], at: usize, n: u32) -> usize {
+pub fn put_hex(line: &mut [u8], at: usize, n: u32) -> usize
+    ensures { λ r. ⌜ lineAt (now (line .exit)) r ≡ puts (hexText n) (lineAt (now (line .entry)) at) ⌝ }
+{
     let a = put_byte(line, at, (n / 0x0100_0000 % 256) as u8);
     let b = put_byte(line, a, (n / 0x0001_0000 % 256) as u8);
     let c = put_byte(line, b, (n / 0x0000_0100 % 256) as u8);
@@ -124,25 +140,37 @@ pub fn put_hex(line: &mut [u8], at: usize, n: u32) -> usize {
 }
 
 // The decimal digit of `n` at a place of that scale, unless it leads and is zero.
-fn put_place(line: &mut [u8], at: usize, n: u32, scale: u32) -> usize {
-    if 1 < scale && scale <= n {
-        return put(line, at, b'0' + (n / scale % 10) as u8);
+fn put_place(line: &mut [u8], at: usize, n: u32, scale: u32) -> usize
+    requires { ⌜ 0 < scale ⌝ }
+    ensures { λ r. ⌜ lineAt (now (line .exit)) r ≡ puts (digitText n scale) (lineAt (now (line .entry)) at) ⌝ }
+{
+    if scale <= n {
+        let digit = b'0' + (n / scale % 10) as u8;
+        return put(line, at, digit);
     }
     at
 }
 
 // Decimal digits with no leading zero.
-pub fn put_decimal(line: &mut [u8], at: usize, n: u32) -> usize {
-    let mut scale: u32 = 1_000_000_000;
-    let mut next = at;
-    while 1 < scale {
-        next = put_place(line, next, n, scale);
-        scale = scale / 10;
-    }
-    put(line, next, b'0' + (n % 10) as u8)
+pub fn put_decimal(line: &mut [u8], at: usize, n: u32) -> usize
+    ensures { λ r. ⌜ lineAt (now (line .exit)) r ≡ puts (decimalText n) (lineAt (now (line .entry)) at) ⌝ }
+{
+    let a = put_place(line, at, n, 1_000_000_000);
+    let b = put_place(line, a, n, 100_000_000);
+    let c = put_place(line, b, n, 10_000_000);
+    let d = put_place(line, c, n, 1_000_000);
+    let e = put_place(line, d, n, 100_000);
+    let f = put_place(line, e, n, 10_000);
+    let g = put_place(line, f, n, 1000);
+    let h = put_place(line, g, n, 100);
+    let i = put_place(line, h, n, 10);
+    let last = b'0' + (n % 10) as u8;
+    put(line, i, last)
 }
 
-pub fn put_text(line: &mut [u8], at: usize, text: &[u8]) -> usize {
+pub fn put_text(line: &mut [u8], at: usize, text: &[u8]) -> usize
+    ensures { λ r. ⌜ lineAt (now (line .exit)) r ≡ puts (now (text .entry)) (lineAt (now (line .entry)) at) ⌝ }
+{
     let mut next = at;
     for k in 0..text.len() {
         next = put(line, next, text[k]);

@@ -1,0 +1,22 @@
+-- `digits::hex_digit` meets its contract. Assumes nothing.
+use borrow.Author.Needs.{needs}
+use Rattle.digits.proofs.hex_digit.Statement.{statement}
+use Rattle.digits.proofs.hex_digit.Tie as tie
+
+cast-d : tie.Need-cast-d
+cast-d c = search needs
+
+add-result : tie.Need-add-result
+add-result c = search needs
+
+returns : tie.Need-returns
+returns c = ?
+
+add-result-2 : tie.Need-add-result-2
+add-result-2 c = search needs
+
+returns-2 : tie.Need-returns-2
+returns-2 c = ?
+
+pub hex-digit-spec : {M : Type 1} → statement M
+hex-digit-spec = tie.close (tie.spec cast-d add-result returns add-result-2 returns-2)

@@ -1,0 +1,45 @@
+-- Text put into a line, and numbers as text.
+use Prim.Native.Nat.{ℕ, _+_, _/_, _%_, _^_}
+use mathlib.Core.Bool.{cond}
+use mathlib.Core.List.{List, [], _∷_, _++_}
+use lib.Dec.{leb, ltb}
+use lib.ListN.{length, set}
+
+-- a line, and the place in it behind what was put
+pub record Line : Type 0 where
+  pub text : List ℕ
+  pub at : ℕ
+
+abbrev pub lineAt : List ℕ → ℕ → Line
+lineAt text at = record { text = text; at = at }
+
+-- a full line takes no more
+abbrev pub put : ℕ → Line → Line
+put b l = cond (ltb (l .at) (length (l .text))) (lineAt (set (l .text) (l .at) b) (l .at + 1)) l
+
+abbrev pub puts : List ℕ → Line → Line
+puts [] l = l
+puts (b ∷ bs) l = puts bs (put b l)
+
+-- ---- "eight upper-case hex digits"
+abbrev pub hexDigit : ℕ → ℕ
+hexDigit n = cond (ltb (n % 16) 10) (0x30 + n % 16) (0x37 + n % 16)
+
+abbrev pub byteText : ℕ → List ℕ
+byteText b = hexDigit (b / 16) ∷ hexDigit b ∷ []
+
+abbrev pub hexText : ℕ → List ℕ
+hexText n = byteText (n / 2 ^ 24 % 256) ++ (byteText (n / 2 ^ 16 % 256) ++ (byteText (n / 2 ^ 8 % 256) ++ byteText (n % 256)))
+
+-- ---- "(decimal)": no digit that leads and is 0, but for the last
+abbrev pub digitText : (n scale : ℕ) → List ℕ
+digitText n scale = cond (leb scale n) ((0x30 + n / scale % 10) ∷ []) []
+
+abbrev pub decimalText : ℕ → List ℕ
+decimalText n =
+    digitText n 1000000000
+    ++ (digitText n 100000000
+    ++ (digitText n 10000000
+    ++ (digitText n 1000000
+    ++ (digitText n 100000
+    ++ (digitText n 10000 ++ (digitText n 1000 ++ (digitText n 100 ++ (digitText n 10 ++ ((0x30 + n % 10) ∷ [])))))))))
