@@ -14,7 +14,7 @@ abbrev pub lineAt : List ℕ → ℕ → Line
 lineAt text at = record { text = text; at = at }
 
 -- a full line takes no more
-abbrev pub put : ℕ → Line → Line
+unfoldable pub put : ℕ → Line → Line
 put b l = cond (ltb (l .at) (length (l .text))) (lineAt (set (l .text) (l .at) b) (l .at + 1)) l
 
 abbrev pub puts : List ℕ → Line → Line
@@ -35,11 +35,11 @@ hexText n = byteText (n / 2 ^ 24 % 256) ++ (byteText (n / 2 ^ 16 % 256) ++ (byte
 abbrev pub digitText : (n scale : ℕ) → List ℕ
 digitText n scale = cond (leb scale n) ((0x30 + n / scale % 10) ∷ []) []
 
+abbrev pub digitsFrom : List ℕ → ℕ → List ℕ
+digitsFrom [] n = (0x30 + n % 10) ∷ []
+digitsFrom (scale ∷ scales) n = digitText n scale ++ digitsFrom scales n
+
 abbrev pub decimalText : ℕ → List ℕ
-decimalText n =
-    digitText n 1000000000
-    ++ (digitText n 100000000
-    ++ (digitText n 10000000
-    ++ (digitText n 1000000
-    ++ (digitText n 100000
-    ++ (digitText n 10000 ++ (digitText n 1000 ++ (digitText n 100 ++ (digitText n 10 ++ ((0x30 + n % 10) ∷ [])))))))))
+decimalText =
+    digitsFrom
+    (1000000000 ∷ 100000000 ∷ 10000000 ∷ 1000000 ∷ 100000 ∷ 10000 ∷ 1000 ∷ 100 ∷ 10 ∷ [])

@@ -1,4 +1,6 @@
 -- `digits::put_byte` meets its contract. Assumes nothing.
+use mathlib.Core.Path.{ap, _∙_}
+use Rattle.digits.specs.Text.{put}
 use borrow.Author.Needs.{needs}
 use Rattle.digits.proofs.put_byte.Statement.{statement}
 use Rattle.digits.proofs.put_byte.Tie as tie
@@ -25,7 +27,9 @@ same-length : tie.Need-same-length
 same-length c = search needs
 
 returns : tie.Need-returns
-returns c = ?
+returns c =
+    c .before .before .put2 .ensures ∙ ap (put (c .before .before .before .before .before .before .before .before .hex-digit2 .result)) (c .before .before .before .before .before .before .put .ensures)
+    ∙ rw (c .before .before .before .before .before .before .before .before .before .before .hex-digit .ensures, c .before .before .before .before .before .before .before .before .before .before .before .wide .ensures, c .before .before .before .before .before .before .before .before .hex-digit2 .ensures, c .before .before .before .before .before .before .before .before .before .wide2 .ensures)
 
 pub put-byte-spec : {M : Type 1} → statement M
 put-byte-spec =

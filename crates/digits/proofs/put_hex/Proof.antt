@@ -1,4 +1,7 @@
 -- `digits::put_hex` meets its contract. Assumes nothing.
+use Prim.Native.Nat.{_/_, _%_, _^_}
+use mathlib.Core.Path.{ap, _∙_}
+use Rattle.digits.specs.Text.{byteText, puts}
 use borrow.Author.Needs.{needs}
 use Rattle.digits.proofs.put_hex.Statement.{statement}
 use Rattle.digits.proofs.put_hex.Tie as tie
@@ -31,7 +34,13 @@ same-length : tie.Need-same-length
 same-length c = search needs
 
 returns : tie.Need-returns
-returns c = ?
+returns c =
+    let n = c .before .before .before .before .before .before .before .before .before .before .before .before .before .before .before .before .before .args .n in
+    c .before .before .put-byte4 .ensures
+    ∙ ap (puts (byteText (n % 256)))
+    (c .before .before .before .before .before .before .put-byte3 .ensures
+    ∙ ap (puts (byteText (n / 2 ^ 8 % 256)))
+    (c .before .before .before .before .before .before .before .before .before .before .put-byte2 .ensures ∙ ap (puts (byteText (n / 2 ^ 16 % 256))) (c .before .before .before .before .before .before .before .before .before .before .before .before .before .before .put-byte .ensures)))
 
 pub put-hex-spec : {M : Type 1} → statement M
 put-hex-spec =

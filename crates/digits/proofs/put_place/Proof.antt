@@ -1,4 +1,6 @@
 -- `digits::put_place` meets its contract. Assumes nothing.
+use mathlib.Core.Path.{_∙_}
+use borrow.Author.Tests.{le-leb, lt-leb}
 use borrow.Author.Needs.{needs}
 use Rattle.digits.proofs.put_place.Statement.{statement}
 use Rattle.digits.proofs.put_place.Tie as tie
@@ -19,10 +21,10 @@ same-length : tie.Need-same-length
 same-length c = search needs
 
 returns : tie.Need-returns
-returns c = ?
+returns c = c .before .before .put .ensures ∙ rw (le-leb _ _ (c .before .before .before .before .if1 .taken))
 
 returns-2 : tie.Need-returns-2
-returns-2 c = ?
+returns-2 c = rw (lt-leb _ _ (c .if1 .left))
 
 pub put-place-spec : {M : Type 1} → statement M
 put-place-spec =
