@@ -7,7 +7,7 @@ use lib.Dec.{ltb}
 use lib.ListN.{length, length-set, set}
 use Rattle.digits.specs.Text.{Line, digitText, digitsFrom, lineAt, put, puts}
 
-puts-both : (xs ys : List ℕ) (l : Line) → puts (xs ++ ys) l ≡ puts ys (puts xs l)
+pub puts-both : (xs ys : List ℕ) (l : Line) → puts (xs ++ ys) l ≡ puts ys (puts xs l)
 puts-both [] ys l = refl
 puts-both (x ∷ xs) ys l = puts-both xs ys (put x l)
 

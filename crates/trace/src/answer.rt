@@ -1,6 +1,10 @@
 // What `trace` prints, written whole.
 use libc::STDOUT_FILENO;
 use sequencer::Ran;
+ghost use mathlib.Core.Path.{_≡_};
+ghost use lib.ListN.{take};
+ghost use Rattle.digits.specs.Text.{lineAt, puts};
+ghost use Rattle.trace.specs.Printed.{readText, readsText, numbersText, endText, refusedText, printed};
 
 fn write(text: &[u8], end: usize) {
     if end <= text.len() {
@@ -8,16 +12,20 @@ fn write(text: &[u8], end: usize) {
     }
 }
 
-fn put_read(text: &mut [u8], at: usize, value: u32) -> usize {
+fn put_read(text: &mut [u8], at: usize, value: u32) -> usize
+    ensures { λ r. ⌜ lineAt (now (text .exit)) r ≡ puts (readText value) (lineAt (now (text .entry)) at) ⌝ }
+{
     let a = digits::put_text(text, at, b"READ ");
     let b = digits::put_hex(text, a, value);
     digits::put(text, b, b'\n')
 }
 
 // A line for each of the first `logged` values.
-fn put_reads(text: &mut [u8], log: &[u32; 1024], logged: usize) -> usize {
+fn put_reads(text: &mut [u8], log: &[u32], logged: usize) -> usize
+    ensures { λ r. ⌜ lineAt (now (text .exit)) r ≡ puts (readsText (take logged (now (log .entry)))) (lineAt (now (text .entry)) 0) ⌝ }
+{
     let mut next: usize = 0;
-    for k in 0..1024 {
+    for k in 0..log.len() {
         if logged <= k {
             return next;
         }
@@ -27,33 +35,43 @@ fn put_reads(text: &mut [u8], log: &[u32; 1024], logged: usize) -> usize {
 }
 
 // Two decimal numbers and the end of the line.
-fn put_numbers(text: &mut [u8], at: usize, first: u32, second: u32) -> usize {
+fn put_numbers(text: &mut [u8], at: usize, first: u32, second: u32) -> usize
+    ensures { λ r. ⌜ lineAt (now (text .exit)) r ≡ puts (numbersText first second) (lineAt (now (text .entry)) at) ⌝ }
+{
     let a = digits::put_decimal(text, at, first);
     let b = digits::put(text, a, b' ');
     let c = digits::put_decimal(text, b, second);
     digits::put(text, c, b'\n')
 }
 
-fn refused(number: u32, place: u32) {
-    let mut text = [0u8; 64];
-    let a = digits::put_text(&mut text, 0, b"REFUSED ");
-    let b = put_numbers(&mut text, a, number, place);
-    write(&text, b);
+fn refused(text: &mut [u8], number: u32, place: u32) -> usize
+    ensures { λ r. ⌜ lineAt (now (text .exit)) r ≡ puts (refusedText number place) (lineAt (now (text .entry)) 0) ⌝ }
+{
+    let a = digits::put_text(text, 0, b"REFUSED ");
+    put_numbers(text, a, number, place)
 }
 
-// There is room for 1,024 lines of 14 bytes and the last one.
-fn ended(outcome: u32, steps: u32, log: &[u32; 1024], logged: usize) {
-    let mut text = [0u8; 14400];
-    let a = put_reads(&mut text, log, logged);
-    let b = digits::put_text(&mut text, a, b"END ");
-    let c = put_numbers(&mut text, b, outcome, steps);
-    write(&text, c);
+fn ended(text: &mut [u8], outcome: u32, steps: u32, at: usize) -> usize
+    ensures { λ r. ⌜ lineAt (now (text .exit)) r ≡ puts (endText outcome steps) (lineAt (now (text .entry)) at) ⌝ }
+{
+    let a = digits::put_text(text, at, b"END ");
+    put_numbers(text, a, outcome, steps)
 }
 
-pub fn ran(ran: Ran, log: &[u32; 1024]) {
+// The whole text, and how long it is.
+fn put_ran(text: &mut [u8], ran: Ran, log: &[u32]) -> usize
+    ensures { λ r. ⌜ lineAt (now (text .exit)) r ≡ puts (printed ran (now (log .entry))) (lineAt (now (text .entry)) 0) ⌝ }
+{
     if sequencer::is_refusal(ran.outcome) {
-        refused(ran.outcome, ran.place);
-        return;
+        return refused(text, ran.outcome, ran.place);
     }
-    ended(ran.outcome, ran.steps, log, ran.logged);
+    let at = put_reads(text, log, ran.logged);
+    ended(text, ran.outcome, ran.steps, at)
+}
+
+// There is room for the lines of 1,024 values, of 14 bytes each, and the last one.
+pub fn ran(ran: Ran, log: &[u32]) {
+    let mut text = [0u8; 14400];
+    let end = put_ran(&mut text, ran, log);
+    write(&text, end);
 }
