@@ -1,11 +1,13 @@
 -- Text behind text is one text, and none of it makes a line longer or shorter. Assumes nothing.
-use Prim.Native.Nat.{ℕ, _+_}
-use mathlib.Core.Path.{_≡_, refl, _∙_}
+use Prim.Native.Nat.{ℕ, suc, _+_, _/_, _%_, _≤_}
+use mathlib.Core.Path.{_≡_, ap, refl, _∙_}
 use mathlib.Core.Bool.{Bool, true, false, cond}
 use mathlib.Core.List.{List, [], _∷_, _++_}
-use lib.Dec.{ltb}
-use lib.ListN.{length, length-set, set}
-use Rattle.digits.specs.Text.{Line, digitText, digitsFrom, lineAt, put, puts}
+use native.Mathlib.Omega.{arith}
+use borrow.Author.Tests.{lt-ltb}
+use lib.Dec.{leb, ltb}
+use lib.ListN.{length, length-append, length-set, set}
+use Rattle.digits.specs.Text.{Line, decimalText, digitText, digitsFrom, lineAt, put, puts}
 
 pub puts-both : (xs ys : List ℕ) (l : Line) → puts (xs ++ ys) l ≡ puts ys (puts xs l)
 puts-both [] ys l = refl
@@ -27,3 +29,34 @@ put-length b l = pick (ltb (l .at) (length (l .text)))
 pub puts-length : (xs : List ℕ) (l : Line) → length (puts xs l .text) ≡ length (l .text)
 puts-length [] l = refl
 puts-length (x ∷ xs) l = puts-length xs (put x l) ∙ put-length x l
+
+-- ---- in a line that has room, all of a text is put
+pub puts-whole : (xs : List ℕ) (l : Line) → l .at + length xs ≤ length (l .text) → puts xs l .at ≡ l .at + length xs
+unfolding put
+puts-whole [] l h = let e : l .at ≡ l .at + 0 = omega arith in e
+puts-whole (x ∷ xs) l h =
+    let next = lineAt (set (l .text) (l .at) x) (l .at + 1) in
+    let p : put x l ≡ next = rw (lt-ltb (l .at) (length (l .text)) (omega (arith, h))) in
+    let s = length-set (l .text) (l .at) x in
+    let e : l .at + 1 + length xs ≡ l .at + suc (length xs) = omega arith in
+    ap (λ (m : Line). puts xs m .at) p ∙ puts-whole xs next (rw s (omega (arith, h))) ∙ e
+
+-- ---- how long a decimal number is
+digit-length : (n scale : ℕ) → length (digitText n scale) ≤ 1
+digit-length n scale = pick (leb scale n)
+  where
+    pick : (b : Bool) → length (cond b ((0x30 + n / scale % 10) ∷ []) []) ≤ 1
+    pick true = omega arith
+    pick false = omega arith
+
+digits-length : (scales : List ℕ) (n : ℕ) → length (digitsFrom scales n) ≤ length scales + 1
+digits-length [] n = omega arith
+digits-length (s ∷ scales) n =
+    let a = length-append (digitText n s) (digitsFrom scales n) in
+    let b = digit-length n s in
+    let c = digits-length scales n in
+    omega (arith, a, b, c)
+
+pub decimal-length : (n : ℕ) → length (decimalText n) ≤ 10
+decimal-length n =
+    digits-length (1000000000 ∷ 100000000 ∷ 10000000 ∷ 1000000 ∷ 100000 ∷ 10000 ∷ 1000 ∷ 100 ∷ 10 ∷ []) n

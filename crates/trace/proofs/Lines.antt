@@ -1,13 +1,16 @@
--- Lines behind lines, and the values that are left to print. Assumes nothing.
-use Prim.Native.Nat.{ℕ, zero, suc, _≤_, _<_}
+-- Lines behind lines, the values that are left to print, and that the text is whole. Assumes nothing.
+use Prim.Native.Nat.{ℕ, zero, suc, _*_, _≤_, _<_}
 use mathlib.Core.Path.{_≡_, refl, ap, sym, _∙_}
+use mathlib.Core.Bool.{Bool, true, false, cond}
 use mathlib.Core.List.{List, [], _∷_, _++_}
 use native.Mathlib.Omega.{arith}
-use lib.ListN.{drop, drop-of-length-le, getD, length, take}
+use lib.ListN.{drop, drop-of-length-le, getD, length, length-append, take}
 use lib.Seq.{drop-cons, getD-take}
-use Rattle.digits.proofs.Puts.{puts-both}
-use Rattle.digits.specs.Text.{Line, decimalText, put, puts}
-use Rattle.trace.specs.Printed.{numbersText, readText, readsText}
+use Rattle.digits.proofs.Puts.{decimal-length, puts-both, puts-whole}
+use Rattle.digits.specs.Text.{Line, decimalText, lineAt, put, puts}
+use Rattle.sequencer.specs.Run.{isRefusal}
+use Rattle.sequencer.specs.declared.Ran.{Ran}
+use Rattle.trace.specs.Printed.{endText, numbersText, printed, readText, readsText, refusedText}
 
 pub numbers-put : (first second : ℕ) (l : Line)
     → put 0x0A (puts (decimalText second) (put 0x20 (puts (decimalText first) l))) ≡ puts (numbersText first second) l
@@ -44,3 +47,43 @@ pub all-printed : (n : ℕ) (log : List ℕ) (k : ℕ) (l : Line) → length log
 all-printed n log k l h =
     let m = at-most n log in
     ap (λ (vs : List ℕ). puts (readsText vs) l) (drop-of-length-le (take n log) {i = k} (omega (arith, m .1, h)))
+
+-- ---- "Output whole": 14,400 bytes are room for the longest text
+reads-length : (vs : List ℕ) → length (readsText vs) ≡ 14 * length vs
+reads-length [] = refl
+reads-length (v ∷ vs) = let h = reads-length vs in omega (arith, h)
+
+numbers-length : (first second : ℕ) → length (numbersText first second) ≤ 22
+numbers-length first second =
+    let a = length-append (decimalText first) (0x20 ∷ (decimalText second ++ (0x0A ∷ []))) in
+    let b = length-append (decimalText second) (0x0A ∷ []) in
+    let f = decimal-length first in
+    let s = decimal-length second in
+    omega (arith, a, b, f, s)
+
+printed-length : (r : Ran) (log : List ℕ) → length log ≤ 1024 → length (printed r log) ≤ 14400
+printed-length r log h = pick (isRefusal (r .outcome))
+  where
+    refusal : length (refusedText (r .outcome) (r .place)) ≤ 14400
+    refusal = let n = numbers-length (r .outcome) (r .place) in omega (arith, n)
+
+    run : length (readsText (take (r .logged) log) ++ endText (r .outcome) (r .steps)) ≤ 14400
+    run =
+        let a = length-append (readsText (take (r .logged) log)) (endText (r .outcome) (r .steps)) in
+        let b = reads-length (take (r .logged) log) in
+        let m = at-most (r .logged) log in
+        let n = numbers-length (r .outcome) (r .steps) in
+        omega (arith, a, b, m .1, n, h)
+
+    pick : (b : Bool)
+        → length (cond b (refusedText (r .outcome) (r .place)) (readsText (take (r .logged) log) ++ endText (r .outcome) (r .steps)))
+        ≤ 14400
+    pick true = refusal
+    pick false = run
+
+pub whole : (text : List ℕ) (r : Ran) (log : List ℕ) → length text ≡ 14400 → length log ≤ 1024
+    → puts (printed r log) (lineAt text 0) .at ≡ length (printed r log)
+whole text r log l h =
+    let n = printed-length r log h in
+    let w = puts-whole (printed r log) (lineAt text 0) (omega (arith, n, l)) in
+    omega (arith, w)
