@@ -11,8 +11,8 @@ abbrev pub done : ℕ → Answer
 done v = record { status = 0; value = v }
 
 -- an answer with no value of its own: a write, or a read at a status other than 0, whose value is `readGives`
-abbrev pub bare : ℕ → Answer
-bare s = record { status = s; value = 0 }
+abbrev pub statusOnly : ℕ → Answer
+statusOnly s = record { status = s; value = 0 }
 
 -- the table's column "Read gives": the value; all ones of the width; else 0
 unfoldable pub readGives : ℕ → ℕ → ℕ → ℕ

@@ -1,6 +1,6 @@
 // An access and its answer: the status table of document 01.
 ghost use mathlib.Core.Path.{_≡_};
-ghost use Rattle.access.specs.Status.{done, bare, readGives};
+ghost use Rattle.access.specs.Status.{done, statusOnly, readGives};
 
 // A read or a write; `value` is what a write writes, and a read does not look at it.
 pub struct Access {
@@ -38,8 +38,8 @@ impl Answer {
     }
 
     // An answer with no value of its own: a write, or a read that is not done.
-    pub fn bare(status: u32) -> Self
-        ensures { λ r. ⌜ r ≡ bare status ⌝ }
+    pub fn status_only(status: u32) -> Self
+        ensures { λ r. ⌜ r ≡ statusOnly status ⌝ }
     {
         Answer { status, value: 0 }
     }

@@ -1,0 +1,30 @@
+-- What holds of every block's answer: "Apart from the settling below, statuses 1 to 5 change nothing", and "A write's value
+-- answer is 0". A block shows it branch by branch, with one of the four lemmas at each leaf. Assumes nothing.
+use Prim.Native.Nat.{ℕ}
+use mathlib.Core.Path.{_≡_, refl}
+use mathlib.Core.Bool.{Bool, true, false}
+use native.Mathlib.Omega.{arith}
+use Rattle.access.specs.Block.{Result, result, status}
+use Rattle.access.specs.Status.{done}
+use Rattle.access.specs.declared.Answer.{Answer}
+
+pub record Orderly {B : Type 0} (before : B) (write : Bool) (r : Result B) : Type 0 where
+  pub unchanged : (r .answer .status ≡ 0 → ⊥) → r .block ≡ before
+  pub write-zero : write ≡ true → r .answer .value ≡ 0
+
+module _ {B : Type 0} {b : B} where
+  -- a write that is done may change the block
+  pub write-done : {w : Bool} {next : B} → Orderly b w (status 0 next)
+  write-done = record { unchanged = λ n. absurd (n refl); write-zero = λ e. refl }
+
+  -- a status alone leaves the block as it was
+  pub kept : {w : Bool} {s : ℕ} → Orderly b w (status s b)
+  kept = record { unchanged = λ n. refl; write-zero = λ e. refl }
+
+  -- a read that is done may change the block too
+  pub read-done : {v : ℕ} {next : B} → Orderly b false (result (done v) next)
+  read-done = record { unchanged = λ n. absurd (n refl); write-zero = λ e. let z : _≡_ {A = ℕ} 0 1 = cc in absurd (omega arith) }
+
+  -- a read that leaves the block as it was
+  pub read-kept : {r : Answer} → Orderly b false (result r b)
+  read-kept = record { unchanged = λ n. refl; write-zero = λ e. let z : _≡_ {A = ℕ} 0 1 = cc in absurd (omega arith) }

@@ -1,0 +1,39 @@
+-- A stack in the front of an array: a store at its height is a push, one below it changes the top. Assumes nothing.
+use Prim.Native.Nat.{ℕ, zero, suc, _+_, _-_, _≤_, _<_}
+use mathlib.Core.Path.{_≡_, refl, sym, ap, _∙_}
+use mathlib.Core.List.{List, _∷_}
+use native.Mathlib.Numerals.{add-one}
+use native.Mathlib.Omega.{arith}
+use lib.ListN.{length, getD, set}
+use lib.Seq.{getD-set-same, getD-set-other}
+use Rattle.lists.specs.Stack.{stackOf}
+
+pub stack-length : (n : ℕ) (xs : List ℕ) → length (stackOf n xs) ≡ n
+stack-length zero xs = refl
+stack-length (suc n) xs = ap suc (stack-length n xs)
+
+-- a store at or beyond the height does not show
+pub stack-store : (n : ℕ) (xs : List ℕ) (i v : ℕ) → n ≤ i → stackOf n (set xs i v) ≡ stackOf n xs
+stack-store zero xs i v h = refl
+stack-store (suc n) xs i v h =
+    ap (λ (x : ℕ). x ∷ stackOf n (set xs i v)) (getD-set-other xs i n v 0 (omega arith))
+    ∙ ap (_∷_ (getD xs n 0)) (stack-store n xs i v (omega arith))
+
+pub stack-push : (n : ℕ) (xs : List ℕ) (v : ℕ) → n < length xs → stackOf (n + 1) (set xs n v) ≡ v ∷ stackOf n xs
+stack-push n xs v h =
+    rw add-one
+    (ap (λ (x : ℕ). x ∷ stackOf n (set xs n v)) (getD-set-same xs n v 0 h)
+    ∙ ap (_∷_ v) (stack-store n xs n v (omega arith)))
+
+pub stack-top : (n : ℕ) (xs : List ℕ) → 0 < n → stackOf n xs ≡ getD xs (n - 1) 0 ∷ stackOf (n - 1) xs
+stack-top zero xs h = absurd (omega arith)
+stack-top (suc n) xs h =
+    let e : suc n - 1 ≡ n = omega arith in
+    rw e
+
+pub stack-set-top :
+    (n : ℕ) (xs : List ℕ) (v : ℕ) → 0 < n → n ≤ length xs → stackOf n (set xs (n - 1) v) ≡ v ∷ stackOf (n - 1) xs
+stack-set-top n xs v h l =
+    stack-top n (set xs (n - 1) v) h
+    ∙ ap (λ (x : ℕ). x ∷ stackOf (n - 1) (set xs (n - 1) v)) (getD-set-same xs (n - 1) v 0 (omega arith))
+    ∙ ap (_∷_ v) (stack-store (n - 1) xs (n - 1) v (omega arith))

@@ -1,0 +1,54 @@
+-- A list of tests holds exactly if each does, and the first that holds is found with none before it. Assumes nothing.
+use Prim.Native.Nat.{ℕ, zero, suc, _+_, _-_, _≤_, _<_}
+use mathlib.Core.Path.{_≡_, refl, ap, _∙_}
+use mathlib.Core.Bool.{Bool, true, false, cond, _&&_}
+use mathlib.Core.List.{List, [], _∷_}
+use lib.ListN.{length}
+use native.Mathlib.Omega.{arith}
+use Rattle.lists.specs.Tests.{allHold, firstFrom, firstHolding, holdsAt}
+
+-- where the first test from `at` on is found at `at + k`, the test at `k + 1` holds and none before it does
+pub record FirstAt (bs : List Bool) (k : ℕ) : Type 0 where
+  pub holds : holdsAt bs (suc k) ≡ true
+  pub none-before : (j : ℕ) → j < k → holdsAt bs (suc j) ≡ false
+
+first-from : (bs : List Bool) (at k : ℕ) → 0 < at → firstFrom at bs ≡ at + k → FirstAt bs k
+first-from [] at k p e = absurd (omega (arith, e))
+first-from (true ∷ bs) at k p e =
+    let z : k ≡ 0 = omega (arith, e) in
+    rw z (record { holds = refl; none-before = λ j l. absurd (omega arith) })
+first-from (false ∷ bs) at zero p e = absurd (not-at bs (suc at) (omega arith) (omega (arith, e)))
+  where
+    not-at : (cs : List Bool) (from : ℕ) → at < from → firstFrom from cs ≡ at → ⊥
+    not-at [] from l h = omega (arith, h)
+    not-at (true ∷ cs) from l h = omega (arith, h)
+    not-at (false ∷ cs) from l h = not-at cs (suc from) (omega arith) h
+first-from (false ∷ bs) at (suc k) p e =
+    let r = first-from bs (suc at) k (omega arith) (e ∙ omega arith) in
+    record { holds = r .holds; none-before = before (r .none-before) }
+  where
+    before : ((j : ℕ) → j < k → holdsAt bs (suc j) ≡ false) → (j : ℕ) → j < suc k → holdsAt (false ∷ bs) (suc j) ≡ false
+    before f zero l = refl
+    before f (suc j) l = f j (omega arith)
+
+-- the first test that holds, by its place counted from 1
+pub first-holds : (bs : List Bool) (k : ℕ) → firstHolding bs ≡ suc k → FirstAt bs k
+first-holds bs k e = first-from bs 1 k (omega arith) (e ∙ omega arith)
+
+-- and 0 exactly if none holds
+pub none-holds : (bs : List Bool) → firstHolding bs ≡ 0 → (k : ℕ) → holdsAt bs k ≡ false
+none-holds bs e zero = refl
+none-holds bs e (suc k) = from bs 1 (omega arith) e k
+  where
+    from : (cs : List Bool) (at : ℕ) → 0 < at → firstFrom at cs ≡ 0 → (k : ℕ) → holdsAt cs (suc k) ≡ false
+    from [] at p h k = refl
+    from (true ∷ cs) at p h k = absurd (omega (arith, h))
+    from (false ∷ cs) at p h zero = refl
+    from (false ∷ cs) at p h (suc k) = from cs (suc at) (omega arith) h k
+
+-- each test of a list that holds holds
+pub each-holds : (bs : List Bool) → allHold bs ≡ true → (k : ℕ) → k < length bs → holdsAt bs (suc k) ≡ true
+each-holds [] h k l = absurd (omega (arith, l))
+each-holds (true ∷ bs) h zero l = refl
+each-holds (true ∷ bs) h (suc k) l = each-holds bs h k (omega (arith, l))
+each-holds (false ∷ bs) h k l = let z : _≡_ {A = ℕ} 0 1 = cc in absurd (omega arith)

@@ -1,0 +1,1 @@
+// Laws about lists that several crates share. Definitions only: there is no code here.

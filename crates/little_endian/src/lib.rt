@@ -1,0 +1,47 @@
+// Numbers of two and four bytes, least byte first.
+ghost use mathlib.Core.Path.{_≡_};
+ghost use Rattle.little_endian.specs.Bytes.{byte0, byte1, byte2, byte3, two, four};
+
+fn wide(b: u8) -> u32
+    ensures { λ r. ⌜ r ≡ b ⌝ }
+{
+    b as u32
+}
+
+// Bytes as a number.
+pub fn two(a: u8, b: u8) -> u16
+    ensures { λ r. ⌜ r ≡ two a b ⌝ }
+{
+    (a as u16) + (b as u16) * 256
+}
+
+pub fn four(a: u8, b: u8, c: u8, d: u8) -> u32
+    ensures { λ r. ⌜ r ≡ four a b c d ⌝ }
+{
+    (wide(a) + wide(b) * 256) + (wide(c) + wide(d) * 256) * 65536
+}
+
+// A number's bytes, from the least on.
+pub fn byte0(x: u32) -> u8
+    ensures { λ r. ⌜ r ≡ byte0 x ⌝ }
+{
+    (x % 256) as u8
+}
+
+pub fn byte1(x: u32) -> u8
+    ensures { λ r. ⌜ r ≡ byte1 x ⌝ }
+{
+    (x / 256 % 256) as u8
+}
+
+pub fn byte2(x: u32) -> u8
+    ensures { λ r. ⌜ r ≡ byte2 x ⌝ }
+{
+    (x / 256 / 256 % 256) as u8
+}
+
+pub fn byte3(x: u32) -> u8
+    ensures { λ r. ⌜ r ≡ byte3 x ⌝ }
+{
+    (x / 256 / 256 / 256 % 256) as u8
+}
