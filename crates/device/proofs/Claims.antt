@@ -1,61 +1,80 @@
--- What a claim says of the port, and how large a base can be. Assumes nothing.
-use Prim.Native.Nat.{ℕ, _+_, _≤_, _<_}
+-- The owner's claim holds, so its port lies within the block's range; and how large a base can be. Assumes nothing.
+use Prim.Native.Nat.{ℕ, suc, _+_, _-_, _≤_, _<_}
 use mathlib.Core.Path.{_≡_, refl}
-use mathlib.Core.Bool.{Bool, true, false, cond, not, _&&_, _||_}
-use borrow.Author.Tests.{leb-true, ltb-true}
+use mathlib.Core.Bool.{Bool, true, false, not, _&&_, _||_}
+use borrow.Author.Tests.{eqb-true, leb-true, ltb-true}
 use native.Mathlib.Omega.{arith}
 use lib.Bits.{and-le-r}
 use lib.Dec.{eqb, leb, ltb}
-use Rattle.access.specs.declared.Access.{Access}
 use Rattle.config.specs.Config.{keyBase, runtimeBase}
 use Rattle.config.specs.declared.Config.{Config}
+use Rattle.lists.proofs.Tests.{first-holds}
+use Rattle.lists.specs.Tests.{holdsAt}
 use Rattle.mask.proofs.Every.{and-left, and-right}
-use Rattle.device.specs.Owner.{isAcpi, isActive, isConfig, keyClaims, monitorClaims, owner, taker}
+use Rattle.device.specs.Owner.{
+  acpi,
+  acpiClaims,
+  acpiPort,
+  claims,
+  configClaims,
+  configPort,
+  configuration,
+  isActive,
+  key,
+  keyClaims,
+  keyPort,
+  monitor,
+  monitorClaims,
+  monitorPort,
+  owner,
+}
 
 pub runtime-at-most : (g : Config) → runtimeBase g ≤ 0xFF80
-runtime-at-most g = and-le-r (g .runtime) 0xFF80
+runtime-at-most g = and-le-r (g .runtime_base) 0xFF80
 
 pub key-at-most : (g : Config) → keyBase g ≤ 0xFFE0
-key-at-most g = and-le-r (g .key) 0xFFE0
+key-at-most g = and-le-r (g .key_base) 0xFFE0
 
-pub acpi-claimed : (port : ℕ) → isAcpi port ≡ true → 0xAC00 ≤ port
-acpi-claimed port h = leb-true 0xAC00 port (and-left (leb 0xAC00 port) (leb port 0xAC1F) h)
+-- the owner claims the port
+claimed : (g : Config) (port k : ℕ) → owner g port ≡ suc k → holdsAt (claims g port) (suc k) ≡ true
+unfolding owner
+claimed g port k e = first-holds (claims g port) k e .holds
 
-pub key-claimed :
-    (g : Config) (port : ℕ) → keyClaims g port ≡ true → (keyBase g ≤ port) × (port < keyBase g + 32)
-unfolding keyClaims
-key-claimed g port h =
-    let base = keyBase g in
-    let within = leb base port && ltb port (base + 32) in
-    let w = and-right (not (eqb base 0)) within (and-right (isActive g) (not (eqb base 0) && within) h) in (
-      leb-true base port (and-left (leb base port) (ltb port (base + 32)) w),
-      ltb-true port (base + 32) (and-right (leb base port) (ltb port (base + 32)) w),
-    )
-
--- the owner's number tells which claim was the first
-first-is : (k : ℕ) (a b c e : Bool) → cond a 1 (cond b 2 (cond c 3 (cond e 4 0))) ≡ k → (k ≡ 2 → b ≡ true) × (k ≡ 4 → e ≡ true)
-first-is k true b c e h = (λ q. absurd (omega arith), λ q. absurd (omega arith))
-first-is k false true c e h = (λ q. refl, λ q. absurd (omega arith))
-first-is k false false true e h = (λ q. absurd (omega arith), λ q. absurd (omega arith))
-first-is k false false false true h = (λ q. absurd (omega arith), λ q. refl)
-first-is k false false false false h = (λ q. absurd (omega arith), λ q. absurd (omega arith))
-
--- a block that takes an access owns its port
-taker-owns : (g : Config) (x : Access) (k : ℕ) → 0 < k → taker g x ≡ k → owner g (x .port) ≡ k
-unfolding taker
-taker-owns g x k l h = pick (eqb (owner g (x .port)) 2 || eqb (x .width) 1) h
+either-at-least : (port a b : ℕ) → a ≤ b → (eqb port a || eqb port b) ≡ true → a ≤ port
+either-at-least port a b l h = pick (eqb port a) (eqb port b) refl refl h
   where
-    pick : (b : Bool) → cond b (owner g (x .port)) 0 ≡ k → owner g (x .port) ≡ k
-    pick true e = e
-    pick false e = absurd (omega (arith, e))
+    pick : (p q : Bool) → eqb port a ≡ p → eqb port b ≡ q → (p || q) ≡ true → a ≤ port
+    pick true q e f h = let z = eqb-true port a e in omega (arith, z)
+    pick false true e f h = let z = eqb-true port b f in omega (arith, z, l)
+    pick false false e f h = let z : _≡_ {A = ℕ} 0 1 = cc in absurd (omega arith)
 
-pub acpi-takes : (g : Config) (x : Access) → taker g x ≡ 2 → 0xAC00 ≤ x .port
-unfolding owner
-acpi-takes g x h =
-    acpi-claimed (x .port)
-    (first-is 2 (isConfig (x .port)) (isAcpi (x .port)) (monitorClaims g (x .port)) (keyClaims g (x .port)) (taker-owns g x 2 (omega arith) h) .0 refl)
+module _ (g : Config) (port : ℕ) where
+  pub config-owns : owner g port ≡ configuration → configPort ≤ port
+  config-owns e = either-at-least port 0x002E 0x002F (omega arith) (claimed g port 0 e)
 
-pub key-takes : (g : Config) (x : Access) → taker g x ≡ 4 → keyClaims g (x .port) ≡ true
-unfolding owner
-key-takes g x h =
-    first-is 4 (isConfig (x .port)) (isAcpi (x .port)) (monitorClaims g (x .port)) (keyClaims g (x .port)) (taker-owns g x 4 (omega arith) h) .1 refl
+  pub acpi-owns : owner g port ≡ acpi → acpiPort ≤ port
+  acpi-owns e = leb-true 0xAC00 port (and-left (leb 0xAC00 port) (leb port 0xAC1F) (claimed g port 1 e))
+
+  pub monitor-owns : owner g port ≡ monitor → monitorPort g ≤ port
+  unfolding monitorClaims
+  monitor-owns e =
+      let base = runtimeBase g in
+      let either = eqb port (base + 0x70) || eqb port (base + 0x71) in
+      either-at-least port (base + 0x70) (base + 0x71) (omega arith)
+      (and-right (not (eqb base 0)) either (and-right (isActive g) (not (eqb base 0) && either) (claimed g port 2 e)))
+
+  key-within : owner g port ≡ key → (leb (keyBase g) port && ltb port (keyBase g + 32)) ≡ true
+  unfolding keyClaims
+  key-within e =
+      let base = keyBase g in
+      let within = leb base port && ltb port (base + 32) in
+      and-right (not (eqb base 0)) within (and-right (isActive g) (not (eqb base 0) && within) (claimed g port 3 e))
+
+  pub key-owns : owner g port ≡ key → keyPort g ≤ port
+  key-owns e = leb-true (keyBase g) port (and-left (leb (keyBase g) port) _ (key-within e))
+
+  pub key-byte : owner g port ≡ key → port - keyPort g < 32
+  key-byte e =
+      let above = key-owns e in
+      let below = ltb-true port (keyBase g + 32) (and-right (leb (keyBase g) port) _ (key-within e)) in
+      omega (arith, above, below)

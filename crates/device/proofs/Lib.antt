@@ -1,6 +1,6 @@
 pub mod Claims
+pub mod Dispatch
+pub mod Orderly
 pub mod Range
 pub mod Settle
-pub mod Taken
 pub mod Ticks
-pub mod Unchanged

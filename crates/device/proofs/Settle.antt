@@ -1,12 +1,11 @@
--- Settling the device twice is settling it once, and the fresh device is settled: all of it is the ACPI block's.
--- Assumes nothing.
+-- Settling the device twice is settling it once, and the fresh device is settled: each block's own law. Assumes nothing.
 use mathlib.Core.Path.{_≡_, ap}
-use Rattle.acpi.proofs.Settle.{settled-fresh, settled-settled}
-use Rattle.device.specs.Device.{freshDevice, settledDevice, withAcpi}
+use Rattle.acpi.proofs.Settle.{settle-fresh, settle-twice}
+use Rattle.device.specs.Device.{freshDevice, settleDevice, withAcpi}
 use Rattle.device.specs.declared.Device.{Device}
 
-pub settled-device : (d : Device) → settledDevice (settledDevice d) ≡ settledDevice d
-settled-device d = ap (withAcpi d) (settled-settled (d .acpi))
+pub settle-device-twice : (d : Device) → settleDevice (settleDevice d) ≡ settleDevice d
+settle-device-twice d = ap (withAcpi d) (settle-twice (d .acpi))
 
-pub settled-fresh-device : settledDevice freshDevice ≡ freshDevice
-settled-fresh-device = ap (withAcpi freshDevice) settled-fresh
+pub settle-fresh-device : settleDevice freshDevice ≡ freshDevice
+settle-fresh-device = ap (withAcpi freshDevice) settle-fresh

@@ -1,43 +1,57 @@
--- Document 01: the three blocks on one bus; the fresh device, its range, its outputs, its settling.
+-- Document 01: the blocks on one bus; the fresh device, its resets, its range, its outputs, its settling.
 use Prim.Native.Nat.{ℕ}
-use mathlib.Core.Bool.{Bool, _&&_}
-use Rattle.acpi.specs.Block.{acpiInRange, freshAcpi}
-use Rattle.acpi.specs.Settle.{sciOn, settled, smiOn}
+use mathlib.Core.Bool.{Bool}
+use mathlib.Core.List.{List, [], _∷_}
+use Rattle.acpi.specs.Acpi.{acpiInRange, acpiReset, freshAcpi}
+use Rattle.acpi.specs.Settle.{acpiSettle, sciOn, smiOn}
 use Rattle.acpi.specs.declared.Acpi.{Acpi}
-use Rattle.config.specs.Config.{configInRange, freshConfig}
-use Rattle.config.specs.Key.{freshKey}
+use Rattle.config.specs.Config.{configInRange, configReset, freshConfig}
 use Rattle.config.specs.declared.Config.{Config}
-use Rattle.config.specs.declared.key.Key.{Key}
-use Rattle.monitor.specs.Monitor.{freshMonitor, interrupt, monitorInRange}
+use Rattle.key.specs.Key.{freshKey, keyReset}
+use Rattle.key.specs.declared.Key.{Key}
+use Rattle.lists.specs.Tests.{allHold}
+use Rattle.monitor.specs.Monitor.{freshMonitor, interrupt, monitorInRange, monitorReset}
 use Rattle.monitor.specs.declared.Monitor.{Monitor}
 use Rattle.device.specs.declared.Device.{Device}
 use Rattle.device.specs.declared.Outputs.{Outputs}
 
 -- ---- the device with one block changed
 abbrev pub withConfig : Device → Config → Device
-withConfig d g = record { config = g; key = d .key; monitor = d .monitor; acpi = d .acpi }
-
-abbrev pub withKey : Device → Key → Device
-withKey d k = record { config = d .config; key = k; monitor = d .monitor; acpi = d .acpi }
-
-abbrev pub withMonitor : Device → Monitor → Device
-withMonitor d m = record { config = d .config; key = d .key; monitor = m; acpi = d .acpi }
+withConfig d g = record { config = g; acpi = d .acpi; monitor = d .monitor; key = d .key }
 
 abbrev pub withAcpi : Device → Acpi → Device
-withAcpi d a = record { config = d .config; key = d .key; monitor = d .monitor; acpi = a }
+withAcpi d a = record { config = d .config; acpi = a; monitor = d .monitor; key = d .key }
 
--- "Reset 3 also key bytes and pin levels 0: the fresh device."
+abbrev pub withMonitor : Device → Monitor → Device
+withMonitor d m = record { config = d .config; acpi = d .acpi; monitor = m; key = d .key }
+
+abbrev pub withKey : Device → Key → Device
+withKey d k = record { config = d .config; acpi = d .acpi; monitor = d .monitor; key = k }
+
 abbrev pub freshDevice : Device
-freshDevice = record { config = freshConfig; key = freshKey; monitor = freshMonitor; acpi = freshAcpi }
+freshDevice = record { config = freshConfig; acpi = freshAcpi; monitor = freshMonitor; key = freshKey }
 
--- "State in range", block by block; key bytes take any value
+-- "Reset 0: configuration [..]. Reset 1 also the monitor [..]. Reset 2 also the ACPI block [..]. Reset 3 also key bytes and pin
+-- levels 0: the fresh device.": each block knows what a reset of this level does to it
+unfoldable pub resetDevice : Device → ℕ → Device
+resetDevice d level = record {
+  config = configReset (d .config) level;
+  acpi = acpiReset (d .acpi) level;
+  monitor = monitorReset (d .monitor) level;
+  key = keyReset (d .key) level;
+}
+
+-- "State in range": every block is; key bytes take any value
+abbrev pub rangeTests : Device → List Bool
+rangeTests d = configInRange (d .config) ∷ acpiInRange (d .acpi) ∷ monitorInRange (d .monitor) ∷ []
+
 unfoldable pub deviceInRange : Device → Bool
-deviceInRange d = configInRange (d .config) && (monitorInRange (d .monitor) && acpiInRange (d .acpi))
+deviceInRange d = allHold (rangeTests d)
 
 -- SCI, SMI and the monitor interrupt
 abbrev pub outputsOf : Device → Outputs
 outputsOf d = record { sci = sciOn (d .acpi); smi = smiOn (d .acpi); monitor = interrupt (d .monitor) }
 
--- "After every event and access, in order": all of it is the ACPI block's
-abbrev pub settledDevice : Device → Device
-settledDevice d = withAcpi d (settled (d .acpi))
+-- "After every event and access, in order": each block's own settling; only the ACPI block has one
+abbrev pub settleDevice : Device → Device
+settleDevice d = withAcpi d (acpiSettle (d .acpi))

@@ -6,13 +6,13 @@ use lib.Dec.{leb}
 use Rattle.access.specs.declared.Access.{Access}
 use Rattle.width.specs.Width.{fitsWidth, isWidth}
 use Rattle.device.specs.Device.{deviceInRange, outputsOf}
-use Rattle.device.specs.Event.{happened, isEvent}
-use Rattle.device.specs.Reach.{accessed}
+use Rattle.device.specs.Dispatch.{deviceAccess}
+use Rattle.device.specs.Event.{applyEvent, isEvent}
 use Rattle.device.specs.declared.Device.{Device}
 use Rattle.device.specs.declared.Outputs.{Outputs}
-use Rattle.device.specs.declared.Reached.{Reached}
-use Rattle.device.specs.declared.lone.Accessed.{Accessed}
-use Rattle.device.specs.declared.lone.Happened.{Happened}
+use Rattle.device.specs.declared.AccessResult.{AccessResult}
+use Rattle.device.specs.declared.lone.LoneAccess.{LoneAccess}
+use Rattle.device.specs.declared.lone.LoneEvent.{LoneEvent}
 
 -- an access that refusal 4 lets through
 abbrev pub isAccess : Access → Bool
@@ -21,10 +21,10 @@ isAccess x = isWidth (x .width) && (leb (x .port) 0xFFFF && cond (x .write) (fit
 abbrev pub noOutputs : Outputs
 noOutputs = record { sci = false; smi = false; monitor = false }
 
-abbrev pub accessRefused : ℕ → Device → Accessed
+abbrev pub accessRefused : ℕ → Device → LoneAccess
 accessRefused n d = record { refusal = n; place = 0; status = 0; value = 0; outputs = noOutputs; device = d }
 
-abbrev pub accessDone : Reached → Accessed
+abbrev pub accessDone : AccessResult → LoneAccess
 accessDone r = record {
   refusal = 0;
   place = 0;
@@ -34,16 +34,16 @@ accessDone r = record {
   device = r .device;
 }
 
-unfoldable pub loneAccess : Device → Access → Accessed
+unfoldable pub loneAccess : Device → Access → LoneAccess
 loneAccess d x =
-    cond (deviceInRange d) (cond (isAccess x) (accessDone (accessed d x)) (accessRefused 4 d)) (accessRefused 11 d)
+    cond (deviceInRange d) (cond (isAccess x) (accessDone (deviceAccess d x)) (accessRefused 4 d)) (accessRefused 11 d)
 
-abbrev pub eventRefused : ℕ → Device → Happened
+abbrev pub eventRefused : ℕ → Device → LoneEvent
 eventRefused n d = record { refusal = n; place = 0; outputs = noOutputs; device = d }
 
-abbrev pub eventDone : Device → Happened
+abbrev pub eventDone : Device → LoneEvent
 eventDone d = record { refusal = 0; place = 0; outputs = outputsOf d; device = d }
 
-unfoldable pub loneEvent : Device → ℕ → Happened
+unfoldable pub loneEvent : Device → ℕ → LoneEvent
 loneEvent d n =
-    cond (deviceInRange d) (cond (isEvent n) (eventDone (happened d n)) (eventRefused 12 d)) (eventRefused 11 d)
+    cond (deviceInRange d) (cond (isEvent n) (eventDone (applyEvent d n)) (eventRefused 12 d)) (eventRefused 11 d)

@@ -1,21 +1,52 @@
--- Document 01, "What the chip model holds": which block owns a port.
+-- Document 01, "What the chip model holds": which block owns a port. The configuration decides, since it holds the bases.
 use Prim.Native.Nat.{ℕ, _+_}
-use mathlib.Core.Bool.{Bool, cond, not, _&&_, _||_}
+use mathlib.Core.Bool.{Bool, not, _&&_, _||_}
+use mathlib.Core.List.{List, [], _∷_}
 use lib.Dec.{eqb, leb, ltb}
-use Rattle.access.specs.declared.Access.{Access}
 use Rattle.config.specs.Config.{keyBase, runtimeBase}
 use Rattle.config.specs.declared.Config.{Config}
+use Rattle.lists.specs.Tests.{firstHolding}
 use Rattle.mask.specs.Mask.{hasBit}
 
+-- ---- the blocks' numbers, in the order of their claims
+abbrev pub nobody : ℕ
+nobody = 0
+
+abbrev pub configuration : ℕ
+configuration = 1
+
+abbrev pub acpi : ℕ
+acpi = 2
+
+abbrev pub monitor : ℕ
+monitor = 3
+
+abbrev pub key : ℕ
+key = 4
+
+-- ---- the first port of each block
+abbrev pub configPort : ℕ
+configPort = 0x002E
+
+abbrev pub acpiPort : ℕ
+acpiPort = 0xAC00
+
+abbrev pub monitorPort : Config → ℕ
+monitorPort g = runtimeBase g + 0x70
+
+abbrev pub keyPort : Config → ℕ
+keyPort g = keyBase g
+
+-- ---- the claims
 -- "002Eh, 002Fh: configuration."
-abbrev pub isConfig : ℕ → Bool
-isConfig port = eqb port 0x002E || eqb port 0x002F
+abbrev pub configClaims : ℕ → Bool
+configClaims port = eqb port 0x002E || eqb port 0x002F
 
 -- "AC00h to AC1Fh: ACPI."
-abbrev pub isAcpi : ℕ → Bool
-isAcpi port = leb 0xAC00 port && leb port 0xAC1F
+abbrev pub acpiClaims : ℕ → Bool
+acpiClaims port = leb 0xAC00 port && leb port 0xAC1F
 
--- "Blocks 3 and 4 exist only while activated and with a masked base other than 0.", so the configuration tells every owner
+-- "Blocks 3 and 4 exist only while activated and with a masked base other than 0."
 abbrev pub isActive : Config → Bool
 isActive g = hasBit 0x01 (g .activate)
 
@@ -30,12 +61,10 @@ unfoldable pub keyClaims : Config → ℕ → Bool
 keyClaims g port =
     isActive g && (not (eqb (keyBase g) 0) && (leb (keyBase g) port && ltb port (keyBase g + 32)))
 
--- "Blocks claim by starting port, in this order [..] The first owner answers": 0 nobody, 1 configuration, 2 ACPI,
--- 3 monitor, 4 key
-unfoldable pub owner : Config → ℕ → ℕ
-owner g port =
-    cond (isConfig port) 1 (cond (isAcpi port) 2 (cond (monitorClaims g port) 3 (cond (keyClaims g port) 4 0)))
+-- "Blocks claim by starting port, in this order"
+abbrev pub claims : Config → ℕ → List Bool
+claims g port = configClaims port ∷ acpiClaims port ∷ monitorClaims g port ∷ keyClaims g port ∷ []
 
--- the block that takes an access: "Blocks 1, 3 and 4 take width 1 only"
-unfoldable pub taker : Config → Access → ℕ
-taker g x = cond (eqb (owner g (x .port)) 2 || eqb (x .width) 1) (owner g (x .port)) 0
+-- "The first owner answers": the block's number, or 0 where nobody claims the port
+unfoldable pub owner : Config → ℕ → ℕ
+owner g port = firstHolding (claims g port)

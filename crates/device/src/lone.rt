@@ -2,12 +2,12 @@
 use access::Access;
 ghost use mathlib.Core.Path.{_≡_};
 ghost use Rattle.device.specs.Lone.{isAccess, accessRefused, accessDone, loneAccess, eventRefused, eventDone, loneEvent, noOutputs};
+use crate::AccessResult;
 use crate::Device;
 use crate::Outputs;
-use crate::Reached;
 
 // The answer to a lone access. `refusal` is 0 where it is done, and else document 01's number.
-pub struct Accessed {
+pub struct LoneAccess {
     pub device: Device,
     pub refusal: u32,
     pub place: u32,
@@ -16,7 +16,7 @@ pub struct Accessed {
     pub outputs: Outputs,
 }
 
-pub struct Happened {
+pub struct LoneEvent {
     pub device: Device,
     pub refusal: u32,
     pub place: u32,
@@ -54,11 +54,11 @@ fn no_outputs() -> Outputs
     }
 }
 
-pub fn access_refused(number: u32, device: Device) -> Accessed
+pub fn access_refused(number: u32, device: Device) -> LoneAccess
     ensures { λ r. ⌜ r ≡ accessRefused number device ⌝ }
 {
     let outputs = no_outputs();
-    Accessed {
+    LoneAccess {
         refusal: number,
         place: 0,
         status: 0,
@@ -68,13 +68,13 @@ pub fn access_refused(number: u32, device: Device) -> Accessed
     }
 }
 
-fn access_done(reached: Reached) -> Accessed
-    ensures { λ r. ⌜ r ≡ accessDone reached ⌝ }
+fn access_done(result: AccessResult) -> LoneAccess
+    ensures { λ r. ⌜ r ≡ accessDone result ⌝ }
 {
-    let answer = reached.answer;
-    let device = reached.device;
+    let answer = result.answer;
+    let device = result.device;
     let outputs = device.outputs();
-    Accessed {
+    LoneAccess {
         refusal: 0,
         place: 0,
         status: answer.status,
@@ -84,11 +84,11 @@ fn access_done(reached: Reached) -> Accessed
     }
 }
 
-pub fn event_refused(number: u32, device: Device) -> Happened
+pub fn event_refused(number: u32, device: Device) -> LoneEvent
     ensures { λ r. ⌜ r ≡ eventRefused number device ⌝ }
 {
     let outputs = no_outputs();
-    Happened {
+    LoneEvent {
         refusal: number,
         place: 0,
         outputs,
@@ -96,11 +96,11 @@ pub fn event_refused(number: u32, device: Device) -> Happened
     }
 }
 
-fn event_done(device: Device) -> Happened
+fn event_done(device: Device) -> LoneEvent
     ensures { λ r. ⌜ r ≡ eventDone device ⌝ }
 {
     let outputs = device.outputs();
-    Happened {
+    LoneEvent {
         refusal: 0,
         place: 0,
         outputs,
@@ -109,7 +109,7 @@ fn event_done(device: Device) -> Happened
 }
 
 impl Device {
-    pub fn access(self, access: Access) -> Accessed
+    pub fn lone_access(self, access: Access) -> LoneAccess
         ensures { λ r. ⌜ r ≡ loneAccess self access ⌝ }
     {
         if !self.in_range() {
@@ -118,10 +118,10 @@ impl Device {
         if !is_access(access) {
             return access_refused(BAD_ACCESS, self);
         }
-        access_done(self.accessed(access))
+        access_done(self.access(access))
     }
 
-    pub fn event(self, number: u32) -> Happened
+    pub fn lone_event(self, number: u32) -> LoneEvent
         ensures { λ r. ⌜ r ≡ loneEvent self number ⌝ }
     {
         if !self.in_range() {
@@ -130,6 +130,6 @@ impl Device {
         if !crate::event::is_event(number) {
             return event_refused(BAD_EVENT, self);
         }
-        event_done(self.happened(number))
+        event_done(self.apply_event(number))
     }
 }

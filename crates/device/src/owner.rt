@@ -1,12 +1,38 @@
-// Which block owns a port, and which takes an access: the configuration tells.
-use access::Access;
+// Which block owns a port. The configuration decides, since it holds the bases.
 use config::Config;
 ghost use mathlib.Core.Path.{_≡_};
-ghost use Rattle.device.specs.Owner.{owner, taker, isActive, isConfig, isAcpi, monitorClaims, keyClaims};
+ghost use Rattle.device.specs.Owner.{owner, isActive, configClaims, acpiClaims, monitorClaims, keyClaims, monitorPort};
 use crate::Device;
 
-fn is_config(port: u32) -> bool
-    ensures { λ r. ⌜ r ≡ isConfig port ⌝ }
+// Owners of a port and their ports.
+impl Device {
+    pub const NOBODY: u32 = 0;
+
+    pub const CONFIGURATION: u32 = 1;
+
+    pub const ACPI: u32 = 2;
+
+    pub const MONITOR: u32 = 3;
+
+    pub const KEY: u32 = 4;
+
+    pub const INDEX_PORT: u32 = 0x002E;
+
+    pub const DATA_PORT: u32 = 0x002F;
+
+    pub const ACPI_FIRST: u32 = 0xAC00;
+
+    pub const ACPI_LAST: u32 = 0xAC1F;
+    // The monitor's index and data registers, from the runtime base.
+    pub const MONITOR_INDEX: u32 = 0x70;
+
+    pub const MONITOR_DATA: u32 = 0x71;
+
+    pub const KEY_BYTES: u32 = 32;
+}
+
+fn config_claims(port: u32) -> bool
+    ensures { λ r. ⌜ r ≡ configClaims port ⌝ }
 {
     if port == Device::INDEX_PORT {
         return true;
@@ -14,8 +40,8 @@ fn is_config(port: u32) -> bool
     port == Device::DATA_PORT
 }
 
-fn is_acpi(port: u32) -> bool
-    ensures { λ r. ⌜ r ≡ isAcpi port ⌝ }
+fn acpi_claims(port: u32) -> bool
+    ensures { λ r. ⌜ r ≡ acpiClaims port ⌝ }
 {
     if Device::ACPI_FIRST <= port {
         return port <= Device::ACPI_LAST;
@@ -45,6 +71,13 @@ fn monitor_claims(config: Config, port: u32) -> bool
     port == base + Device::MONITOR_DATA
 }
 
+// The monitor's first port.
+pub fn monitor_port(config: Config) -> u32
+    ensures { λ r. ⌜ r ≡ monitorPort config ⌝ }
+{
+    config.runtime_base() + Device::MONITOR_INDEX
+}
+
 fn key_claims(config: Config, port: u32) -> bool
     ensures { λ r. ⌜ r ≡ keyClaims config port ⌝ }
 {
@@ -61,14 +94,14 @@ fn key_claims(config: Config, port: u32) -> bool
     port < base + Device::KEY_BYTES
 }
 
-// The block that claims a port: the first of the claim order.
+// The first block that claims the port.
 pub fn owner(config: Config, port: u32) -> u32
     ensures { λ r. ⌜ r ≡ owner config port ⌝ }
 {
-    if is_config(port) {
+    if config_claims(port) {
         return Device::CONFIGURATION;
     }
-    if is_acpi(port) {
+    if acpi_claims(port) {
         return Device::ACPI;
     }
     if monitor_claims(config, port) {
@@ -76,20 +109,6 @@ pub fn owner(config: Config, port: u32) -> u32
     }
     if key_claims(config, port) {
         return Device::KEY;
-    }
-    Device::NOBODY
-}
-
-// The block that takes an access: its port's owner, but every block other than ACPI takes width 1 only.
-pub fn taker(config: Config, access: Access) -> u32
-    ensures { λ r. ⌜ r ≡ taker config access ⌝ }
-{
-    let first = owner(config, access.port);
-    if first == Device::ACPI {
-        return first;
-    }
-    if access.width == 1 {
-        return first;
     }
     Device::NOBODY
 }

@@ -1,3 +1,4 @@
-pub mod Tests
+pub mod All
 pub mod Slice
 pub mod Stack
+pub mod Tests

@@ -3,8 +3,8 @@ use Prim.Native.Nat.{ℕ, zero, suc, _+_, _-_, _≤_, _<_}
 use mathlib.Core.Path.{_≡_, refl, ap, _∙_}
 use mathlib.Core.Bool.{Bool, true, false, cond, _&&_}
 use mathlib.Core.List.{List, [], _∷_}
-use lib.ListN.{length}
 use native.Mathlib.Omega.{arith}
+use Rattle.lists.specs.All.{All}
 use Rattle.lists.specs.Tests.{allHold, firstFrom, firstHolding, holdsAt}
 
 -- where the first test from `at` on is found at `at + k`, the test at `k + 1` holds and none before it does
@@ -46,9 +46,12 @@ none-holds bs e (suc k) = from bs 1 (omega arith) e k
     from (false ∷ cs) at p h zero = refl
     from (false ∷ cs) at p h (suc k) = from cs (suc at) (omega arith) h k
 
--- each test of a list that holds holds
-pub each-holds : (bs : List Bool) → allHold bs ≡ true → (k : ℕ) → k < length bs → holdsAt bs (suc k) ≡ true
-each-holds [] h k l = absurd (omega (arith, l))
-each-holds (true ∷ bs) h zero l = refl
-each-holds (true ∷ bs) h (suc k) l = each-holds bs h k (omega (arith, l))
-each-holds (false ∷ bs) h k l = let z : _≡_ {A = ℕ} 0 1 = cc in absurd (omega arith)
+-- a list of tests holds exactly if each of them does
+pub all-hold : (bs : List Bool) → All (λ b. b ≡ true) bs → allHold bs ≡ true
+all-hold [] t = refl
+all-hold (b ∷ bs) t = rw (t .0) (all-hold bs (t .1))
+
+pub each-holds : (bs : List Bool) → allHold bs ≡ true → All (λ b. b ≡ true) bs
+each-holds [] h = tt
+each-holds (true ∷ bs) h = (refl, each-holds bs h)
+each-holds (false ∷ bs) h = let z : _≡_ {A = ℕ} 0 1 = cc in absurd (omega arith)

@@ -1,0 +1,63 @@
+-- "Apart from the settling below, statuses 1 to 5 change nothing. [..] A write's value answer is 0.", for every device and access: each
+-- block's answer is orderly. Assumes nothing.
+use Prim.Native.Nat.{ℕ, _-_}
+use mathlib.Core.Path.{_≡_, refl, ap}
+use mathlib.Core.Bool.{Bool, true, false, cond}
+use Rattle.access.proofs.Block.{Orderly}
+use Rattle.access.specs.Block.{Result}
+use Rattle.access.specs.Status.{readGives}
+use Rattle.access.specs.declared.Access.{Access}
+use Rattle.access.specs.declared.Answer.{Answer}
+use Rattle.acpi.proofs.Orderly.{acpi-orderly}
+use Rattle.config.proofs.Orderly.{config-orderly}
+use Rattle.key.proofs.Orderly.{key-orderly}
+use Rattle.lists.proofs.All.{at-any}
+use Rattle.monitor.proofs.Orderly.{monitor-orderly}
+use Rattle.device.specs.Device.{settleDevice, withAcpi, withConfig, withKey, withMonitor}
+use Rattle.device.specs.Dispatch.{answerTo, answeredBy, answers, deviceAccess, dispatch}
+use Rattle.device.specs.Owner.{acpiPort, configPort, keyPort, monitorPort, owner}
+use Rattle.device.specs.declared.AccessResult.{AccessResult}
+use Rattle.device.specs.declared.Device.{Device}
+
+record OrderlyResult (d : Device) (x : Access) (r : AccessResult) : Type 0 where
+  unchanged : (r .answer .status ≡ 0 → ⊥) → r .device ≡ d
+  write-zero : x .write ≡ true → r .answer .value ≡ 0
+
+-- a block whose answer is orderly makes the device's so
+by-block :
+    {B : Type 0} {d : Device} {x : Access} {b : B} {r : Result B} (put : B → Device) → put b ≡ d → Orderly b (x .write) r
+    → OrderlyResult d x (answeredBy put r)
+by-block put same o = record { unchanged = λ n. rw (o .unchanged n) same; write-zero = o .write-zero }
+
+dispatch-orderly : (d : Device) (x : Access) → OrderlyResult d x (dispatch d x)
+unfolding dispatch
+dispatch-orderly d x =
+    let nobody : OrderlyResult d x _ = record { unchanged = λ n. refl; write-zero = λ e. refl } in
+    let g = d .config in
+    at-any (OrderlyResult d x) nobody (answers d x)
+    (nobody,
+    by-block (withConfig d) refl (config-orderly g (x .port - configPort) x),
+    by-block (withAcpi d) refl (acpi-orderly (d .acpi) (x .port - acpiPort) x),
+    by-block (withMonitor d) refl (monitor-orderly (d .monitor) (x .port - monitorPort g) x),
+    by-block (withKey d) refl (key-orderly (d .key) (g .control) (x .port - keyPort g) x),
+    tt)
+    (owner g (x .port))
+
+-- a write and a read are answered with the owner's status
+same-status : (x : Access) (r : Answer) → answerTo x r .status ≡ r .status
+same-status x r = pick (x .write)
+  where
+    pick : (b : Bool)
+        → cond b r (record { status = r .status; value = readGives (r .status) (x .width) (r .value) }) .status ≡ r .status
+    pick true = refl
+    pick false = refl
+
+pub access-unchanged :
+    (d : Device) (x : Access) → (deviceAccess d x .answer .status ≡ 0 → ⊥) → deviceAccess d x .device ≡ settleDevice d
+unfolding deviceAccess
+access-unchanged d x n =
+    ap settleDevice (dispatch-orderly d x .unchanged (λ z. n (rw (same-status x (dispatch d x .answer)) z)))
+
+pub write-answers-zero : (d : Device) (x : Access) → x .write ≡ true → deviceAccess d x .answer .value ≡ 0
+unfolding deviceAccess
+write-answers-zero d x w = rw w (dispatch-orderly d x .write-zero w)

@@ -1,0 +1,49 @@
+-- Document 01, "What the chip model holds": an access, answered by the owner of its port, and settled.
+use Prim.Native.Nat.{_-_}
+use mathlib.Core.Bool.{cond}
+use mathlib.Core.List.{List, [], _∷_}
+use lib.ListN.{getD}
+use Rattle.access.specs.Block.{Result}
+use Rattle.access.specs.Status.{readGives, statusOnly}
+use Rattle.access.specs.declared.Access.{Access}
+use Rattle.access.specs.declared.Answer.{Answer}
+use Rattle.acpi.specs.Acpi.{acpiAccess}
+use Rattle.config.specs.Config.{configAccess}
+use Rattle.key.specs.Key.{keyAccess}
+use Rattle.monitor.specs.Monitor.{monitorAccess}
+use Rattle.device.specs.Device.{settleDevice, withAcpi, withConfig, withKey, withMonitor}
+use Rattle.device.specs.Owner.{acpiPort, configPort, keyPort, monitorPort, owner}
+use Rattle.device.specs.declared.AccessResult.{AccessResult}
+use Rattle.device.specs.declared.Device.{Device}
+
+abbrev pub accessResult : Answer → Device → AccessResult
+accessResult r d = record { answer = r; device = d }
+
+-- a block's answer, and the device with that block
+abbrev pub answeredBy : {B : Type 0} → (B → Device) → Result B → AccessResult
+answeredBy put r = accessResult (r .answer) (put (r .block))
+
+-- status 1: "nobody claims"
+abbrev pub unclaimed : Device → AccessResult
+unclaimed d = accessResult (statusOnly 1) d
+
+-- what each block answers to an access at its ports, by the owner's number
+abbrev pub answers : Device → Access → List AccessResult
+answers d x =
+    unclaimed d
+    ∷ answeredBy (withConfig d) (configAccess (d .config) (x .port - configPort) x)
+    ∷ answeredBy (withAcpi d) (acpiAccess (d .acpi) (x .port - acpiPort) x)
+    ∷ answeredBy (withMonitor d) (monitorAccess (d .monitor) (x .port - monitorPort (d .config)) x)
+    ∷ answeredBy (withKey d) (keyAccess (d .key) (d .config .control) (x .port - keyPort (d .config)) x) ∷ []
+
+-- "The first owner answers; nothing is passed on."
+unfoldable pub dispatch : Device → Access → AccessResult
+dispatch d x = getD (answers d x) (owner (d .config) (x .port)) (unclaimed d)
+
+-- the status table's column "Read gives"; a write's answer is the owner's
+abbrev pub answerTo : Access → Answer → Answer
+answerTo x r = cond (x .write) r (record { status = r .status; value = readGives (r .status) (x .width) (r .value) })
+
+-- an access: its answer, and the device after it and its settling
+unfoldable pub deviceAccess : Device → Access → AccessResult
+deviceAccess d x = accessResult (answerTo x (dispatch d x .answer)) (settleDevice (dispatch d x .device))
