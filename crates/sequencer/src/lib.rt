@@ -1,6 +1,7 @@
 // The sequencer: runs an image on a device.
 use access::Answer;
 use device::Device;
+use device::Reached;
 use machine::Sequencer;
 use machine::running;
 use machine::running::Position;
@@ -8,7 +9,8 @@ use machine::word;
 ghost use mathlib.Core.Path.{_≡_};
 ghost use mathlib.Core.Bool.{true};
 ghost use Prim.Native.Nat.{_+_, _<_, _≤_};
-ghost use lib.ListN.{length};
+ghost use lib.ListN.{drop, length};
+ghost use Rattle.semantics.specs.World.{nextApplied};
 ghost use Rattle.machine.specs.Sequencer.{sequencerInRange, countersOf, laid};
 ghost use Rattle.sequencer.specs.Run.{
   isRefusal,
@@ -192,9 +194,18 @@ fn counted(steps: u32) -> u32
     steps + 1
 }
 
-// Runs the words of an image until the run ends. The device is changed in place, block by block: a function would take it by value
-// and hand it back, and a copy of it costs more than a word. What an event of the ACPI block and the settling of an access change is
-// stored number by number: a copy of a block right behind a store into it makes the processor wait for that store.
+// The device after the next event, if there is one.
+fn next_event(device: Device, events: &[u32], taken: usize) -> Device
+    ensures { λ r. ⌜ r ≡ nextApplied device (drop taken (now (events .entry))) ⌝ }
+{
+    if taken < events.len() {
+        return device.happened(events[taken]);
+    }
+    device
+}
+
+// Runs the words of an image until the run ends. `last` is the device with the answer of its last access: one local for both is
+// copied once for each access.
 fn run_words(
     image: &[u8],
     device: Device,
@@ -207,21 +218,24 @@ fn run_words(
     ensures { λ r. ⌜ EndsAs (now (events .entry)) (now (log .entry)) (now (log .exit)) r (imageRun (now (image .entry)) device sequencer (now (events .entry)) budget (length (now (log .entry)))) ⌝ }
 {
     let words = (image.len() / 12) as u32;
-    let mut chip = device;
+    let mut last = Reached {
+        answer: Answer::bare(Answer::DONE),
+        device,
+    };
     let mut x = start(sequencer);
     let mut counters = counters_of(sequencer);
     let mut steps: u32 = 0;
     while steps < budget {
         if words <= x.place {
-            return ended(PLACE_BEYOND, steps, chip, x, counters);
+            return ended(PLACE_BEYOND, steps, last.device, x, counters);
         }
         let word = record::read(image, 12 * index(x.place));
         let fault = word::fault(words, log.len(), x.used, x.logged, word);
         if fault != 0 {
-            return ended(fault, steps, chip, x, counters);
+            return ended(fault, steps, last.device, x, counters);
         }
         if word.kind == word::HALT {
-            return ended(HALTED, steps + 1, chip, x, counters);
+            return ended(HALTED, steps + 1, last.device, x, counters);
         }
         if word::turns(word) {
             let next = x.turned(word, &mut counters);
@@ -229,71 +243,18 @@ fn run_words(
             x.place = next.place;
             steps = counted(steps);
         } else if word.kind == word::DELAY {
-            let acpi = chip.acpi;
-            let ticked = acpi.tick(word.value);
-            let settled = ticked.settled();
-            chip.acpi = settled;
+            let delayed = last.device.happened(running::tick_event(word));
+            last.device = delayed;
             x.place = x.place + 1;
             steps = counted(steps);
         } else {
-            // The next event, if there is one.
-            let taken = x.taken;
-            if taken < events.len() {
-                let event = events[taken];
-                if device::event::moves_acpi(event) {
-                    let acpi = chip.acpi;
-                    let moved = device::event::acpi_happened(acpi, event);
-                    chip.acpi.pm1sts = moved.pm1sts;
-                    chip.acpi.gpe0sts = moved.gpe0sts;
-                    chip.acpi.timer = moved.timer;
-                    chip.acpi.cpu = moved.cpu;
-                    chip.acpi.sleeping = moved.sleeping;
-                    device::event::take_level(&mut chip.acpi.levels, event);
-                } else {
-                    chip = chip.happened(event);
-                }
-            }
-            // The access, answered by the block that takes it.
-            let access = running::access_of(word);
-            let config = chip.config;
-            let taker = device::owner::taker(config, access);
-            let mut answer = Answer::bare(Answer::UNCLAIMED);
-            if taker == Device::CONFIGURATION {
-                let r = device::reach::config_reached(config, access);
-                let next = r.config;
-                chip.config = next;
-                answer = r.answer;
-            } else if taker == Device::ACPI {
-                let acpi = chip.acpi;
-                let r = device::reach::acpi_reached(acpi, access);
-                let next = r.acpi;
-                chip.acpi = next;
-                answer = r.answer;
-            } else if taker == Device::MONITOR {
-                let r = device::reach::monitor_reached(
-                    config,
-                    chip.monitor.index,
-                    &mut chip.monitor.registers,
-                    access,
-                );
-                chip.monitor.index = r.index;
-                answer = r.answer;
-            } else if taker == Device::KEY {
-                answer = device::reach::key_reached(config, &mut chip.key.bytes, access);
-            }
-            // The settling.
-            let acpi = chip.acpi;
-            if acpi.pending() {
-                chip.acpi.pm1sts = acpi.woken_status();
-                chip.acpi.sleeping = false;
-                chip.acpi.cpu = 0;
-            }
-            let given = device::reach::answered(access, answer);
-            x = x.answered(word, given.value, events, log);
+            let arrived = next_event(last.device, events, x.taken);
+            last = arrived.accessed(running::access_of(word));
+            x = x.answered(word, last.answer.value, events, log);
             steps = counted(steps);
         }
     }
-    ended(BUDGET_SPENT, steps, chip, x, counters)
+    ended(BUDGET_SPENT, steps, last.device, x, counters)
 }
 
 // Runs an image from a sequencer's state: document 01's one run call. A lone step is a run with budget 1.
