@@ -24,10 +24,10 @@ use Rattle.config.specs.Config.{
 use Rattle.config.specs.Key.{keyRead, keyWritten}
 use Rattle.monitor.specs.Monitor.{freshMonitor, monitorDataRead, monitorDataWritten}
 use Rattle.monitor.specs.Table.{kindOf, resetOf, slotOf}
-use Rattle.device.specs.Event.{happened, moved, resetBy}
+use Rattle.device.specs.Event.{applyEvent, moved, resetBy}
 use Rattle.device.specs.Owner.{keyClaims, monitorClaims, owner, taker}
-use Rattle.device.specs.Reach.{
-  accessed,
+use Rattle.device.specs.Dispatch.{
+  deviceAccess,
   acpiReached,
   configReached,
   keyReached,
@@ -48,8 +48,8 @@ use Rattle.correct.specs.Cases.{cases, every, p1, p2, p3, p4, p5, p6, p7
 
 pub all-hold : every cases ≡ true
 unfolding p1 p2 p3 p4 p5 p6 p7 p8 p9 p10 p11
-    accessed reached configReached acpiReached monitorReached keyReached readGives
-    owner taker keyClaims monitorClaims happened moved resetBy
+    deviceAccess reached configReached acpiReached monitorReached keyReached readGives
+    owner taker keyClaims monitorClaims applyEvent moved resetBy
     configDataRead registerRead configIndexWritten configDataWritten registerWritten controlWritten keyRead keyWritten
     freshMonitor monitorDataRead monitorDataWritten kindOf resetOf slotOf
     takes acpiRead acpiWritten acpiRegister acpiControl setupIndexWritten

@@ -26,10 +26,10 @@ use Rattle.monitor.specs.Monitor.{freshMonitor, lockSet, register, stored}
 use Rattle.monitor.specs.Table.{slotOf}
 use Rattle.monitor.specs.declared.Monitor.{Monitor}
 use Rattle.device.specs.Device.{freshDevice, withAcpi, withConfig, withMonitor}
-use Rattle.device.specs.Event.{happened}
-use Rattle.device.specs.Reach.{accessed}
+use Rattle.device.specs.Event.{applyEvent}
+use Rattle.device.specs.Dispatch.{deviceAccess}
 use Rattle.device.specs.declared.Device.{Device}
-use Rattle.device.specs.declared.Reached.{Reached}
+use Rattle.device.specs.declared.AccessResult.{AccessResult}
 use Rattle.record.specs.Record.{bytesOf}
 use Rattle.record.specs.declared.Record.{Record}
 use Rattle.script.specs.Refusals.{scriptRefusal}
@@ -38,17 +38,17 @@ use Rattle.sequencer.specs.Run.{imageRun}
 use Rattle.machine.specs.Sequencer.{freshSequencer}
 
 -- ---- accesses, events, and what is looked at afterwards
-abbrev reading : Device → ℕ → ℕ → Reached
-reading d w p = accessed d (record { write = false; width = w; port = p; value = 0 })
+abbrev reading : Device → ℕ → ℕ → AccessResult
+reading d w p = deviceAccess d (record { write = false; width = w; port = p; value = 0 })
 
-abbrev writing : Device → ℕ → ℕ → ℕ → Reached
-writing d w p v = accessed d (record { write = true; width = w; port = p; value = v })
+abbrev writing : Device → ℕ → ℕ → ℕ → AccessResult
+writing d w p v = deviceAccess d (record { write = true; width = w; port = p; value = v })
 
-abbrev answers : Reached → ℕ → ℕ → Bool
+abbrev answers : AccessResult → ℕ → ℕ → Bool
 answers r s v = eqb (r .answer .status) s && eqb (r .answer .value) v
 
 abbrev tick : Device → Device
-tick d = happened d (1 * 2 ^ 24 + 1)
+tick d = applyEvent d (1 * 2 ^ 24 + 1)
 
 -- the fresh device with another block
 abbrev configured : Config → Device
@@ -70,17 +70,17 @@ p2 =
     answers (reading locked 1 0x002F) 0 0x07
     && (answers (writing locked 1 0x002F 0x00) 2 0
     && (eqb (writing locked 1 0x002F 0x00 .device .config .control) 0x07
-    && eqb (happened (writing locked 1 0x002F 0x00 .device) (6 * 2 ^ 24 + 0) .config .control) 0x04))
+    && eqb (applyEvent (writing locked 1 0x002F 0x00 .device) (6 * 2 ^ 24 + 0) .config .control) 0x04))
 
 -- ---- P3 key base 0020h, active: 0020h is key byte 0, 002Eh configuration; the fresh key control is write-locked, so it
 -- is 00h here
 abbrev keyed : Device
 keyed = configured (withControl (withKey (withActivate freshConfig 0x01) 0x0020) 0x00)
 
-abbrev keyWrite : Reached
+abbrev keyWrite : AccessResult
 keyWrite = writing keyed 1 0x0020 0x5A
 
-abbrev indexWrite : Reached
+abbrev indexWrite : AccessResult
 indexWrite = writing keyed 1 0x002E 0x55
 
 unfoldable pub p3 : Bool
@@ -99,7 +99,7 @@ abbrev lockedMonitor : Device
 lockedMonitor = watched (stored (stored freshMonitor (slotOf 0x40) 0x02) (slotOf 0x83) 0x03)
 
 -- a write of a monitor register: its index, then the data
-abbrev monitorWrite : ℕ → ℕ → Reached
+abbrev monitorWrite : ℕ → ℕ → AccessResult
 monitorWrite i v = writing (writing lockedMonitor 1 0x0470 i .device) 1 0x0471 v
 
 unfoldable pub p4 : Bool
@@ -121,14 +121,14 @@ p5 =
     && not (hasBit 0x0001 (tick (powered (withTimer freshAcpi 0x7FFFFF)) .acpi .pm1sts))))
 
 -- ---- P6 PM1a_STS 0101h, written 0100h: 0001h
-abbrev statusWrite : Reached
+abbrev statusWrite : AccessResult
 statusWrite = writing (powered (withPm1sts freshAcpi 0x0101)) 2 0xAC08 0x0100
 
 unfoldable pub p6 : Bool
 p6 = answers statusWrite 0 0 && eqb (statusWrite .device .acpi .pm1sts) 0x0001
 
 -- ---- P7 SETUP_IDX written 42h: status 5, index kept
-abbrev setupWrite : Reached
+abbrev setupWrite : AccessResult
 setupWrite = writing (powered (withSetupidx freshAcpi 0x41)) 2 0xAC0E 0x42
 
 unfoldable pub p7 : Bool
@@ -148,7 +148,7 @@ p8 =
     && (answers (reading sciDevice 1 0xAC04) 0 0 && eqb (reading sciDevice 1 0xAC04 .device .acpi .cpu) 0)
 
 -- ---- P9 sleep written with pending: awake, WAKE_STS set
-abbrev sleepWrite : Reached
+abbrev sleepWrite : AccessResult
 sleepWrite = writing (powered alarmed) 2 0xAC0C 0x2000
 
 unfoldable pub p9 : Bool

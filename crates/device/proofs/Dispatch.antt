@@ -5,7 +5,7 @@ use lib.ListN.{getD}
 use Rattle.access.specs.declared.Access.{Access}
 use Rattle.access.specs.declared.Answer.{Answer}
 use Rattle.device.specs.Device.{settleDevice}
-use Rattle.device.specs.Dispatch.{accessResult, answerTo, answers, deviceAccess, dispatch, unclaimed}
+use Rattle.device.specs.Dispatch.{accessResult, answerGiven, answers, deviceAccess, dispatch, unclaimed}
 use Rattle.device.specs.Owner.{owner}
 use Rattle.device.specs.declared.AccessResult.{AccessResult}
 use Rattle.device.specs.declared.Device.{Device}
@@ -15,7 +15,7 @@ module _ (d : Device) (x : Access) where
   pub answered-by :
       (k : ℕ) (answer : Answer) (next : Device) → owner (d .config) (x .port) ≡ k
       → accessResult answer next ≡ getD (answers d x) k (unclaimed d)
-      → accessResult (answerTo x answer) (settleDevice next) ≡ deviceAccess d x
+      → accessResult (answerGiven x answer) (settleDevice next) ≡ deviceAccess d x
   unfolding deviceAccess dispatch
   answered-by k answer next o e = rw (o, ← e)
 

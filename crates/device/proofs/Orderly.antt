@@ -14,7 +14,7 @@ use Rattle.key.proofs.Orderly.{key-orderly}
 use Rattle.lists.proofs.All.{at-any}
 use Rattle.monitor.proofs.Orderly.{monitor-orderly}
 use Rattle.device.specs.Device.{settleDevice, withAcpi, withConfig, withKey, withMonitor}
-use Rattle.device.specs.Dispatch.{answerTo, answeredBy, answers, deviceAccess, dispatch}
+use Rattle.device.specs.Dispatch.{answerGiven, answeredBy, answers, deviceAccess, dispatch}
 use Rattle.device.specs.Owner.{acpiPort, configPort, keyPort, monitorPort, owner}
 use Rattle.device.specs.declared.AccessResult.{AccessResult}
 use Rattle.device.specs.declared.Device.{Device}
@@ -44,7 +44,7 @@ dispatch-orderly d x =
     (owner g (x .port))
 
 -- a write and a read are answered with the owner's status
-same-status : (x : Access) (r : Answer) → answerTo x r .status ≡ r .status
+same-status : (x : Access) (r : Answer) → answerGiven x r .status ≡ r .status
 same-status x r = pick (x .write)
   where
     pick : (b : Bool)

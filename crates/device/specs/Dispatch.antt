@@ -41,9 +41,9 @@ unfoldable pub dispatch : Device → Access → AccessResult
 dispatch d x = getD (answers d x) (owner (d .config) (x .port)) (unclaimed d)
 
 -- the status table's column "Read gives"; a write's answer is the owner's
-abbrev pub answerTo : Access → Answer → Answer
-answerTo x r = cond (x .write) r (record { status = r .status; value = readGives (r .status) (x .width) (r .value) })
+abbrev pub answerGiven : Access → Answer → Answer
+answerGiven x r = cond (x .write) r (record { status = r .status; value = readGives (r .status) (x .width) (r .value) })
 
 -- an access: its answer, and the device after it and its settling
 unfoldable pub deviceAccess : Device → Access → AccessResult
-deviceAccess d x = accessResult (answerTo x (dispatch d x .answer)) (settleDevice (dispatch d x .device))
+deviceAccess d x = accessResult (answerGiven x (dispatch d x .answer)) (settleDevice (dispatch d x .device))

@@ -1,5 +1,5 @@
 -- Document 01, "Outside events": "32-bit numbers, kind in the top byte, operand below".
-use Prim.Native.Nat.{ℕ, _/_, _%_, _^_}
+use Prim.Native.Nat.{ℕ, _+_, _*_, _/_, _%_, _^_}
 use mathlib.Core.Bool.{Bool, cond, not, _&&_}
 use mathlib.Core.List.{List, [], _∷_}
 use lib.Dec.{eqb, leb}
@@ -14,6 +14,10 @@ kindOf number = number / 2 ^ 24
 
 abbrev pub operandOf : ℕ → ℕ
 operandOf number = number % 2 ^ 24
+
+-- so many ticks
+abbrev pub tickEvent : ℕ → ℕ
+tickEvent ticks = 1 * 2 ^ 24 + ticks
 
 -- ---- the kinds of event: the greatest operand, and the block that it goes to
 pub record EventKind : Type 0 where

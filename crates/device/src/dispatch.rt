@@ -2,15 +2,15 @@
 use access::Access;
 use access::Answer;
 ghost use mathlib.Core.Path.{_≡_};
-ghost use Rattle.device.specs.Dispatch.{accessResult, answerTo, deviceAccess};
+ghost use Rattle.device.specs.Dispatch.{accessResult, answerGiven, deviceAccess};
 ghost use Rattle.device.specs.Device.{settleDevice};
 use crate::AccessResult;
 use crate::Device;
 use crate::owner::{monitor_port, owner};
 
 // A read gives what its status says; a write's answer is the owner's.
-fn answer_to(access: Access, answer: Answer) -> Answer
-    ensures { λ r. ⌜ r ≡ answerTo access answer ⌝ }
+fn answer_given(access: Access, answer: Answer) -> Answer
+    ensures { λ r. ⌜ r ≡ answerGiven access answer ⌝ }
 {
     if access.write {
         return answer;
@@ -25,9 +25,9 @@ fn answer_to(access: Access, answer: Answer) -> Answer
 impl Device {
     // The answer as it is given, and the device settled.
     fn answered(self, access: Access, answer: Answer) -> AccessResult
-        ensures { λ r. ⌜ r ≡ accessResult (answerTo access answer) (settleDevice self) ⌝ }
+        ensures { λ r. ⌜ r ≡ accessResult (answerGiven access answer) (settleDevice self) ⌝ }
     {
-        let answer = answer_to(access, answer);
+        let answer = answer_given(access, answer);
         let device = self.settle();
         AccessResult { answer, device }
     }
@@ -39,25 +39,25 @@ impl Device {
         let config = self.config;
         let owner = owner(config, access.port);
         match owner {
-            1 => {
+            Device::CONFIGURATION => {
                 let r = config.access(access.port - Device::INDEX_PORT, access);
                 let block = r.block;
                 self.config = block;
                 self.answered(access, r.answer)
             }
-            2 => {
+            Device::ACPI => {
                 let r = self.acpi.access(access.port - Device::ACPI_FIRST, access);
                 let block = r.block;
                 self.acpi = block;
                 self.answered(access, r.answer)
             }
-            3 => {
+            Device::MONITOR => {
                 let r = self.monitor.access(access.port - monitor_port(config), access);
                 let block = r.block;
                 self.monitor = block;
                 self.answered(access, r.answer)
             }
-            4 => {
+            Device::KEY => {
                 let r = self
                     .key
                     .access(config.control, access.port - config.key_base(), access);

@@ -1,6 +1,9 @@
 // Outside events: document 01, "Outside events". A 32-bit number, its kind in the top byte and its operand below.
+use acpi::Acpi;
+use monitor::Monitor;
 ghost use mathlib.Core.Path.{_≡_};
-ghost use Rattle.device.specs.Event.{applyEvent, eventBlock, greatestOperand, isEvent};
+ghost use Prim.Native.Nat.{_≤_};
+ghost use Rattle.device.specs.Event.{applyEvent, eventBlock, greatestOperand, isEvent, tickEvent};
 use crate::Device;
 
 // A kind's place in an event's number.
@@ -16,13 +19,13 @@ fn event_block(kind: u32) -> u32
     ensures { λ r. ⌜ r ≡ eventBlock kind ⌝ }
 {
     match kind {
-        1 => Device::ACPI,
-        2 => Device::ACPI,
-        3 => Device::ACPI,
-        4 => Device::ACPI,
-        5 => Device::MONITOR,
-        6 => EVERY_BLOCK,
-        7 => Device::ACPI,
+        Acpi::TICKS => Device::ACPI,
+        Acpi::PIN => Device::ACPI,
+        Acpi::RTC_ALARM => Device::ACPI,
+        Acpi::BUS_MASTER => Device::ACPI,
+        Monitor::SENSOR => Device::MONITOR,
+        RESET => EVERY_BLOCK,
+        Acpi::BUTTON => Device::ACPI,
         _ => Device::NOBODY,
     }
 }
@@ -31,12 +34,20 @@ fn greatest_operand(kind: u32) -> u32
     ensures { λ r. ⌜ r ≡ greatestOperand kind ⌝ }
 {
     match kind {
-        1 => 65535,
-        2 => 15,
-        5 => 3,
-        6 => 3,
+        Acpi::TICKS => 65535,
+        Acpi::PIN => 15,
+        Monitor::SENSOR => 3,
+        RESET => 3,
         _ => 0,
     }
+}
+
+// The event of so many ticks.
+pub fn tick_event(ticks: u32) -> u32
+    requires { ⌜ ticks ≤ 65535 ⌝ }
+    ensures { λ r. ⌜ r ≡ tickEvent ticks ⌝ }
+{
+    Acpi::TICKS * KIND + ticks
 }
 
 pub fn is_event(number: u32) -> bool
@@ -58,17 +69,17 @@ impl Device {
         let operand = number % KIND;
         let block = event_block(kind);
         match block {
-            2 => {
+            Device::ACPI => {
                 let acpi = self.acpi.event(kind, operand);
                 self.acpi = acpi;
                 self.settle()
             }
-            3 => {
+            Device::MONITOR => {
                 let monitor = self.monitor.event(kind, operand);
                 self.monitor = monitor;
                 self.settle()
             }
-            255 => {
+            EVERY_BLOCK => {
                 let fresh = self.reset(operand);
                 fresh.settle()
             }

@@ -9,10 +9,10 @@ use native.Mathlib.Omega.{arith}
 use borrow.Author.Tests.{eq-eqb, ne-eqb}
 use lib.ListN.{length, drop, getD, set, length-append, length-drop}
 use Rattle.access.specs.declared.Access.{Access}
-use Rattle.device.specs.Event.{happened}
-use Rattle.device.specs.Reach.{accessed}
+use Rattle.device.specs.Event.{applyEvent, tickEvent}
+use Rattle.device.specs.Dispatch.{deviceAccess}
 use Rattle.device.specs.declared.Device.{Device}
-use Rattle.device.specs.declared.Reached.{Reached}
+use Rattle.device.specs.declared.AccessResult.{AccessResult}
 use Rattle.mask.specs.Mask.{hasBit}
 use Rattle.record.proofs.Stores.{stored}
 use Rattle.record.specs.declared.Record.{Record}
@@ -26,7 +26,6 @@ use Rattle.semantics.specs.World.{
   readOf,
   sharesOne,
   tested,
-  tickEvent,
   valueRead,
   writeOf,
   written,
@@ -79,25 +78,25 @@ pub access-read : (r : Record) → (r .kind ≡ 1 → ⊥) → accessOf r ≡ re
 access-read r n = rw (ne-eqb (r .kind) 1 n)
 
 -- what the code has of it: the device behind the event, the answer, and the place in the list of events
-pub record Accessing (x : Running) (events : List ℕ) (a : Access) (r : Reached) (t : ℕ) : Type 0 where
+pub record Accessing (x : Running) (events : List ℕ) (a : Access) (r : AccessResult) (t : ℕ) : Type 0 where
   pub arrived : Device
   pub applied : arrived ≡ nextApplied (x .device) (drop (x .taken) events)
-  pub answered : r ≡ accessed arrived a
+  pub answered : r ≡ deviceAccess arrived a
   pub inside : t ≤ length events
   pub left : drop t events ≡ eventsBehind (drop (x .taken) events)
 
 same-answer :
-    {x : Running} {events lent log : List ℕ} {m : Machine} {a : Access} {r : Reached} {t : ℕ}
+    {x : Running} {events lent log : List ℕ} {m : Machine} {a : Access} {r : AccessResult} {t : ℕ}
     → Holds x events lent log m → Accessing x events a r t → r ≡ answerTo (m .world) a
 same-answer h g = g .answered ∙ rw (g .applied, h .device, h .taken)
 
 same-left :
-    {x : Running} {events lent log : List ℕ} {m : Machine} {a : Access} {r : Reached} {t : ℕ}
+    {x : Running} {events lent log : List ℕ} {m : Machine} {a : Access} {r : AccessResult} {t : ℕ}
     → Holds x events lent log m → Accessing x events a r t → drop t events ≡ eventsBehind (m .world .events)
 same-left h g = g .left ∙ ap eventsBehind (h .taken)
 
 -- the state behind an access that logs nothing
-abbrev pub accessedTo : Running → Reached → (place taken : ℕ) → Running
+abbrev pub accessedTo : Running → AccessResult → (place taken : ℕ) → Running
 accessedTo x r p t = record {
   device = r .device;
   place = p;
@@ -108,13 +107,13 @@ accessedTo x r p t = record {
 }
 
 behind-access :
-    {x : Running} {events lent log : List ℕ} {m : Machine} {a : Access} {r : Reached} {t : ℕ} {p q : ℕ}
+    {x : Running} {events lent log : List ℕ} {m : Machine} {a : Access} {r : AccessResult} {t : ℕ} {p q : ℕ}
     → Holds x events lent log m → Accessing x events a r t → p ≡ q
     → Holds (accessedTo x r p t) events lent log (machine q (m .counters) (after (m .world) a []))
 behind-access {x} {events} {lent} {log} {m} {a} {r} {t} {p} {q} h g e =
     let n = append-nil (m .world .logged) in
     record {
-      device = ap (λ (y : Reached). y .device) (same-answer h g);
+      device = ap (λ (y : AccessResult). y .device) (same-answer h g);
       place = e;
       counters = h .counters;
       used = h .used;
@@ -126,7 +125,7 @@ behind-access {x} {events} {lent} {log} {m} {a} {r} {t} {p} {q} h g e =
     }
 
 pub wrote :
-    (word : Record) (x : Running) (events : List ℕ) (r : Reached) (t : ℕ) → word .kind ≡ 1
+    (word : Record) (x : Running) (events : List ℕ) (r : AccessResult) (t : ℕ) → word .kind ≡ 1
     → Accessing x events (writeOf (word .port) (word .width) (word .value)) r t
     → Moves word events x (accessedTo x r (x .place + 1) t)
 unfolding written
@@ -135,27 +134,27 @@ wrote word x events r t k g = λ log lent m h.
 
 -- ---- a test
 pub test-passed :
-    (word : Record) (x : Running) (events : List ℕ) (r : Reached) (t v : ℕ) → word .kind ≡ 6
+    (word : Record) (x : Running) (events : List ℕ) (r : AccessResult) (t v : ℕ) → word .kind ≡ 6
     → Accessing x events (readOf (word .port) (word .width)) r t → r .answer .value ≡ v → hasBit (word .value) v ≡ true
     → Moves word events x (accessedTo x r (x .place + 1) t)
 unfolding tested sharesOne valueRead
 test-passed word x events r t v k g e b = λ log lent m h.
     let s : sharesOne (word .port) (word .width) (word .value) (m .world) ≡ true =
-    ap (hasBit (word .value)) (sym (ap (λ (y : Reached). y .answer .value) (same-answer h g)) ∙ e) ∙ b in
+    ap (hasBit (word .value)) (sym (ap (λ (y : AccessResult). y .answer .value) (same-answer h g)) ∙ e) ∙ b in
     rw (did-test word m k, s) (behind-access h g (add-one _ ∙ ap suc (h .place)))
 
 pub test-failed :
-    (word : Record) (x : Running) (events : List ℕ) (r : Reached) (t v : ℕ) → word .kind ≡ 6
+    (word : Record) (x : Running) (events : List ℕ) (r : AccessResult) (t v : ℕ) → word .kind ≡ 6
     → Accessing x events (readOf (word .port) (word .width)) r t → r .answer .value ≡ v → hasBit (word .value) v ≡ false
     → Moves word events x (accessedTo x r (word .target) t)
 unfolding tested sharesOne valueRead
 test-failed word x events r t v k g e b = λ log lent m h.
     let s : sharesOne (word .port) (word .width) (word .value) (m .world) ≡ false =
-    ap (hasBit (word .value)) (sym (ap (λ (y : Reached). y .answer .value) (same-answer h g)) ∙ e) ∙ b in
+    ap (hasBit (word .value)) (sym (ap (λ (y : AccessResult). y .answer .value) (same-answer h g)) ∙ e) ∙ b in
     rw (did-test word m k, s) (behind-access h g refl)
 
 -- ---- a read, which logs its value
-abbrev pub readTo : Running → Reached → (taken : ℕ) → Running
+abbrev pub readTo : Running → AccessResult → (taken : ℕ) → Running
 readTo x r t = record {
   device = r .device;
   place = x .place + 1;
@@ -178,17 +177,17 @@ logs values lent log n v e h l =
     rw (e, one-more values v) (stored values lent log v h (omega (arith, a, b, d, e, l)))
 
 pub read-out :
-    (word : Record) (x : Running) (events log : List ℕ) (r : Reached) (t v : ℕ) → word .kind ≡ 2
+    (word : Record) (x : Running) (events log : List ℕ) (r : AccessResult) (t v : ℕ) → word .kind ≡ 2
     → Accessing x events (readOf (word .port) (word .width)) r t → r .answer .value ≡ v → x .logged < length log
     → Does word events x log (readTo x r t) (set log (x .logged) v)
 unfolding readLogged valueRead
 read-out word x events log r t v k g e l = λ lent m h.
     let s = same-answer h g in
     let w : v ≡ answerTo (m .world) (readOf (word .port) (word .width)) .answer .value =
-    sym e ∙ ap (λ (y : Reached). y .answer .value) s in
+    sym e ∙ ap (λ (y : AccessResult). y .answer .value) s in
     rw (did-read word m k)
     (record {
-      device = ap (λ (y : Reached). y .device) s;
+      device = ap (λ (y : AccessResult). y .device) s;
       place = add-one _ ∙ ap suc (h .place);
       counters = h .counters;
       used = h .used;
@@ -211,13 +210,13 @@ movedTo x d p = record {
 }
 
 pub delayed-by :
-    (word : Record) (x : Running) (d : Device) → word .kind ≡ 3 → d ≡ happened (x .device) (tickEvent (word .value))
+    (word : Record) (x : Running) (d : Device) → word .kind ≡ 3 → d ≡ applyEvent (x .device) (tickEvent (word .value))
     → TakesNone word x (movedTo x d (x .place + 1))
 unfolding delayed
 delayed-by word x d k e = λ events log lent m h.
     rw (did-delay word m k)
     (record {
-      device = e ∙ ap (λ (y : Device). happened y (tickEvent (word .value))) (h .device);
+      device = e ∙ ap (λ (y : Device). applyEvent y (tickEvent (word .value))) (h .device);
       place = add-one _ ∙ ap suc (h .place);
       counters = h .counters;
       used = h .used;

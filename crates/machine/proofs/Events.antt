@@ -5,11 +5,11 @@ use mathlib.Core.List.{List}
 use native.Mathlib.Numerals.{add-one}
 use lib.ListN.{length, drop, getD, drop-of-length-le}
 use lib.Seq.{drop-cons}
-use Rattle.device.specs.Event.{happened}
+use Rattle.device.specs.Event.{applyEvent}
 use Rattle.device.specs.declared.Device.{Device}
 use Rattle.semantics.specs.World.{nextApplied, eventsBehind}
 
-pub next-there : (d : Device) (xs : List ℕ) (k : ℕ) → k < length xs → nextApplied d (drop k xs) ≡ happened d (getD xs k 0)
+pub next-there : (d : Device) (xs : List ℕ) (k : ℕ) → k < length xs → nextApplied d (drop k xs) ≡ applyEvent d (getD xs k 0)
 next-there d xs k h = rw (drop-cons xs k 0 h)
 
 pub next-none : (d : Device) (xs : List ℕ) (k : ℕ) → length xs ≤ k → nextApplied d (drop k xs) ≡ d

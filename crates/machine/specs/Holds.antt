@@ -6,9 +6,9 @@ use mathlib.Core.List.{List}
 use lib.Dec.{eqb}
 use lib.ListN.{drop, length}
 use Rattle.access.specs.declared.Access.{Access}
-use Rattle.device.specs.Reach.{accessed}
+use Rattle.device.specs.Dispatch.{deviceAccess}
 use Rattle.device.specs.declared.Device.{Device}
-use Rattle.device.specs.declared.Reached.{Reached}
+use Rattle.device.specs.declared.AccessResult.{AccessResult}
 use Rattle.semantics.specs.World.{nextApplied, readOf, writeOf}
 use Rattle.record.specs.declared.Record.{Record}
 use Rattle.machine.specs.Sequencer.{laid}
@@ -93,6 +93,6 @@ accessOf r = cond (eqb (r .kind) 1) (writeOf (r .port) (r .width) (r .value)) (r
 -- behind the next event and the word's access, which gave the value: the rest of what the word does
 abbrev pub Answers : Record → ℕ → List ℕ → Position → List ℕ → Position → List ℕ → Type 0
 Answers word value events x log y log' =
-    (d arrived : Device) (cs : List ℕ) (r : Reached) → arrived ≡ nextApplied d (drop (x .taken) events)
-    → r ≡ accessed arrived (accessOf word) → r .answer .value ≡ value
+    (d arrived : Device) (cs : List ℕ) (r : AccessResult) → arrived ≡ nextApplied d (drop (x .taken) events)
+    → r ≡ deviceAccess arrived (accessOf word) → r .answer .value ≡ value
     → Does word events (running d x cs) log (running (r .device) y cs) log'

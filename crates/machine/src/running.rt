@@ -5,7 +5,7 @@ use record::Record;
 ghost use mathlib.Core.Path.{_≡_};
 ghost use Prim.Native.Nat.{_≤_, _<_};
 ghost use lib.ListN.{length, drop};
-ghost use Rattle.semantics.specs.World.{eventsBehind, readOf, tickEvent, writeOf};
+ghost use Rattle.semantics.specs.World.{eventsBehind, readOf, writeOf};
 ghost use Rattle.machine.specs.Holds.{Answers, CanAccess, CanTurn, MovesAlone, MovesPlace, accessOf};
 
 // Where a run stands, beside its device and its counters: the next word, and how many counters are in use, events taken and values
@@ -57,14 +57,6 @@ pub fn access_of(word: Record) -> Access
         return write_of(word);
     }
     read_of(word)
-}
-
-// The event of a delay: so many ticks.
-pub fn tick_event(word: Record) -> u32
-    requires { ⌜ word .value ≤ 65535 ⌝ }
-    ensures { λ r. ⌜ r ≡ tickEvent (word .value) ⌝ }
-{
-    device::event::TICKS * device::event::KIND + word.value
 }
 
 // ---- words that move the place and the counters alone

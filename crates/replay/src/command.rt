@@ -7,7 +7,7 @@ use access::Access;
 use device::Device;
 
 fn access(device: Device, access: Access) -> Device {
-    let r = device.access(access);
+    let r = device.lone_access(access);
     let next = r.device;
     let outputs = r.outputs;
     if r.refusal == 0 {
@@ -64,7 +64,7 @@ fn write(device: Device, line: &[u8]) -> Device {
 fn event(device: Device, line: &[u8]) -> Device {
     let number = digits::next_number(line, 1);
     if number.ok && digits::ends(line, number.next) {
-        let r = device.event(number.value);
+        let r = device.lone_event(number.value);
         let next = r.device;
         let outputs = r.outputs;
         if r.refusal == 0 {

@@ -9,8 +9,8 @@ use Rattle.device.specs.Device.{freshDevice}
 use Rattle.device.specs.Lone.{accessRefused, eventRefused, loneAccess, loneEvent}
 use Rattle.device.specs.declared.Device.{Device}
 use Rattle.device.specs.declared.Outputs.{Outputs}
-use Rattle.device.specs.declared.lone.Accessed.{Accessed}
-use Rattle.device.specs.declared.lone.Happened.{Happened}
+use Rattle.device.specs.declared.lone.LoneAccess.{LoneAccess}
+use Rattle.device.specs.declared.lone.LoneEvent.{LoneEvent}
 use Rattle.sequencer.specs.Run.{isRefusal, runAnswer}
 use Rattle.machine.specs.Sequencer.{freshSequencer}
 use Rattle.sequencer.specs.declared.Ran.{Ran}
@@ -36,11 +36,11 @@ abbrev pub outputNumbers : Outputs → List ℕ
 outputNumbers o = bit (o .sci) ∷ bit (o .smi) ∷ bit (o .monitor) ∷ []
 
 -- ---- a saved device: bytes that are no state are refused with 11, as a state out of range is
-unfoldable pub savedAccess : List ℕ → Access → Accessed
+unfoldable pub savedAccess : List ℕ → Access → LoneAccess
 savedAccess state x =
     cond (loaded state .valid) (loneAccess (loaded state .device) x) (accessRefused 11 (loaded state .device))
 
-unfoldable pub savedEvent : List ℕ → ℕ → Happened
+unfoldable pub savedEvent : List ℕ → ℕ → LoneEvent
 savedEvent state n =
     cond (loaded state .valid) (loneEvent (loaded state .device) n) (eventRefused 11 (loaded state .device))
 
@@ -51,8 +51,8 @@ kept refusal d state = cond (eqb refusal 0) (saved d state) state
 abbrev pub accessOf : Bool → (width port value : ℕ) → Access
 accessOf write w p v = record { write = write; width = w; port = p; value = v }
 
-abbrev pub accessNumbers : Accessed → List ℕ
+abbrev pub accessNumbers : LoneAccess → List ℕ
 accessNumbers r = r .place ∷ r .status ∷ r .value ∷ outputNumbers (r .outputs)
 
-abbrev pub eventNumbers : Happened → List ℕ
+abbrev pub eventNumbers : LoneEvent → List ℕ
 eventNumbers r = r .place ∷ outputNumbers (r .outputs)

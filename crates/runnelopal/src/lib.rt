@@ -3,8 +3,8 @@
 use access::Access;
 use device::Device;
 use device::Outputs;
-use device::lone::Accessed;
-use device::lone::Happened;
+use device::lone::LoneAccess;
+use device::lone::LoneEvent;
 use machine::Sequencer;
 use sequencer::Ran;
 ghost use mathlib.Core.Path.{_≡_};
@@ -129,7 +129,7 @@ pub extern "C" fn runnelopal_fresh(state: &mut [u8]) -> u32
     0
 }
 
-fn put_accessed(answer: &mut [u64], r: Accessed)
+fn put_access(answer: &mut [u64], r: LoneAccess)
     ensures { λ _. ⌜ now (answer .exit) ≡ numbered 0 (accessNumbers r) (now (answer .entry)) ⌝ }
 {
     let outputs = r.outputs;
@@ -139,7 +139,7 @@ fn put_accessed(answer: &mut [u64], r: Accessed)
     put_outputs(answer, 3, outputs);
 }
 
-fn put_happened(answer: &mut [u64], r: Happened)
+fn put_event(answer: &mut [u64], r: LoneEvent)
     ensures { λ _. ⌜ now (answer .exit) ≡ numbered 0 (eventNumbers r) (now (answer .entry)) ⌝ }
 {
     let outputs = r.outputs;
@@ -173,7 +173,7 @@ pub extern "C" fn runnelopal_access(
     let loaded = state::load(state);
     let device = loaded.device;
     if loaded.valid {
-        let r = device.access(Access {
+        let r = device.lone_access(Access {
             write,
             width,
             port,
@@ -181,11 +181,11 @@ pub extern "C" fn runnelopal_access(
         });
         let next = r.device;
         keep(state, r.refusal, next);
-        put_accessed(answer, r);
+        put_access(answer, r);
         return r.refusal;
     }
     let r = device::lone::access_refused(device::lone::BAD_STATE, device);
-    put_accessed(answer, r);
+    put_access(answer, r);
     r.refusal
 }
 
@@ -199,13 +199,13 @@ pub extern "C" fn runnelopal_event(state: &mut [u8], number: u32, answer: &mut [
     let loaded = state::load(state);
     let device = loaded.device;
     if loaded.valid {
-        let r = device.event(number);
+        let r = device.lone_event(number);
         let next = r.device;
         keep(state, r.refusal, next);
-        put_happened(answer, r);
+        put_event(answer, r);
         return r.refusal;
     }
     let r = device::lone::event_refused(device::lone::BAD_STATE, device);
-    put_happened(answer, r);
+    put_event(answer, r);
     r.refusal
 }

@@ -1,16 +1,16 @@
 -- Document 01, "Scripts and images": what a write, a read, a test and a delay do, for the sequencer and for the script's
 -- own run alike.
-use Prim.Native.Nat.{ℕ, _+_, _*_, _^_}
+use Prim.Native.Nat.{ℕ}
 use mathlib.Core.Bool.{Bool, true, false}
 use mathlib.Core.List.{List, [], _∷_, _++_}
 use Rattle.access.specs.declared.Access.{Access}
 use Rattle.access.specs.declared.Answer.{Answer}
 use Rattle.device.specs.Device.{outputsOf}
-use Rattle.device.specs.Event.{happened}
-use Rattle.device.specs.Reach.{accessed}
+use Rattle.device.specs.Event.{applyEvent, tickEvent}
+use Rattle.device.specs.Dispatch.{deviceAccess}
 use Rattle.device.specs.declared.Device.{Device}
 use Rattle.device.specs.declared.Outputs.{Outputs}
-use Rattle.device.specs.declared.Reached.{Reached}
+use Rattle.device.specs.declared.AccessResult.{AccessResult}
 use Rattle.mask.specs.Mask.{hasBit}
 
 -- "Definitions list each write, read and test as one access with its whole answer."
@@ -33,7 +33,7 @@ startWorld d events = record { device = d; events = events; logged = []; accesse
 -- "Before each write, read or test the next event, if any, is applied."
 abbrev pub nextApplied : Device → List ℕ → Device
 nextApplied d [] = d
-nextApplied d (e ∷ es) = happened d e
+nextApplied d (e ∷ es) = applyEvent d e
 
 abbrev pub eventsBehind : List ℕ → List ℕ
 eventsBehind [] = []
@@ -46,10 +46,10 @@ writeOf p w v = record { write = true; width = w; port = p; value = v }
 abbrev pub readOf : (port width : ℕ) → Access
 readOf p w = record { write = false; width = w; port = p; value = 0 }
 
-abbrev pub answerTo : World → Access → Reached
-answerTo w x = accessed (nextApplied (w .device) (w .events)) x
+abbrev pub answerTo : World → Access → AccessResult
+answerTo w x = deviceAccess (nextApplied (w .device) (w .events)) x
 
-abbrev pub madeOf : Access → Reached → Made
+abbrev pub madeOf : Access → AccessResult → Made
 madeOf x r = record { access = x; answer = r .answer; outputs = outputsOf (r .device) }
 
 -- the world after an access that logs these values
@@ -81,12 +81,9 @@ unfoldable pub sharesOne : (port width mask : ℕ) → World → Bool
 sharesOne p wd m w = hasBit m (valueRead p wd w)
 
 -- "A delay is a tick event of its value and takes none from the list."
-abbrev pub tickEvent : ℕ → ℕ
-tickEvent ticks = 1 * 2 ^ 24 + ticks
-
 unfoldable pub delayed : (ticks : ℕ) → World → World
 delayed n w = record {
-  device = happened (w .device) (tickEvent n);
+  device = applyEvent (w .device) (tickEvent n);
   events = w .events;
   logged = w .logged;
   accesses = w .accesses;

@@ -9,8 +9,9 @@ use borrow.Author.Tests.{eqb-false, eqb-true}
 use lib.Dec.{eqb, leb}
 use lib.ListN.{length, length-append}
 use Rattle.access.specs.declared.Access.{Access}
-use Rattle.device.proofs.Range.{accessed-in-range, happened-in-range}
+use Rattle.device.proofs.Range.{access-in-range, event-in-range}
 use Rattle.device.specs.Device.{deviceInRange}
+use Rattle.device.specs.Event.{tickEvent}
 use Rattle.device.specs.declared.Device.{Device}
 use Rattle.mask.proofs.Branch.{branch, branch-on}
 use Rattle.record.specs.declared.Record.{Record}
@@ -24,7 +25,6 @@ use Rattle.semantics.specs.World.{
   readOf,
   startWorld,
   tested,
-  tickEvent,
   valueRead,
   writeOf,
   written,
@@ -104,12 +104,12 @@ module _ (image : List ℕ) (room : ℕ) (P : Machine → Type 0) (keeps : Keeps
 -- ---- the device
 applied-in-range : (d : Device) (events : List ℕ) → deviceInRange d ≡ true → deviceInRange (nextApplied d events) ≡ true
 applied-in-range d [] h = h
-applied-in-range d (e ∷ es) h = happened-in-range d e h
+applied-in-range d (e ∷ es) h = event-in-range d e h
 
 answered-in-range :
     (w : World) (x : Access) → deviceInRange (w .device) ≡ true → deviceInRange (answerTo w x .device) ≡ true
 answered-in-range w x h =
-    accessed-in-range (nextApplied (w .device) (w .events)) x (applied-in-range (w .device) (w .events) h)
+    access-in-range (nextApplied (w .device) (w .events)) x (applied-in-range (w .device) (w .events) h)
 
 -- ---- the machine
 pub record MachineInRange (m : Machine) : Type 0 where
@@ -161,7 +161,7 @@ did-in-range room words r m c h =
     let read = readOf (r .port) (r .width) in
     branch P (eqb (r .kind) 1) (counters-kept next _ h (answered-in-range w write (h .device)))
     (branch P (eqb (r .kind) 2) (counters-kept next _ h (answered-in-range w read (h .device)))
-    (branch P (eqb (r .kind) 3) (counters-kept next _ h (happened-in-range (w .device) (tickEvent (r .value)) (h .device)))
+    (branch P (eqb (r .kind) 3) (counters-kept next _ h (event-in-range (w .device) (tickEvent (r .value)) (h .device)))
     (branch-on P (eqb (r .kind) 4) (λ k.
     let four = eqb-true (r .kind) 4 k in
     entered-in-range r m (enter-value r four (c .good)) (enter-room (length (m .counters)) r four (c .counter)) h) (λ k.

@@ -1,7 +1,7 @@
 // The sequencer: runs an image on a device.
 use access::Answer;
 use device::Device;
-use device::Reached;
+use device::AccessResult;
 use machine::Sequencer;
 use machine::running;
 use machine::running::Position;
@@ -199,7 +199,7 @@ fn next_event(device: Device, events: &[u32], taken: usize) -> Device
     ensures { λ r. ⌜ r ≡ nextApplied device (drop taken (now (events .entry))) ⌝ }
 {
     if taken < events.len() {
-        return device.happened(events[taken]);
+        return device.apply_event(events[taken]);
     }
     device
 }
@@ -218,8 +218,8 @@ fn run_words(
     ensures { λ r. ⌜ EndsAs (now (events .entry)) (now (log .entry)) (now (log .exit)) r (imageRun (now (image .entry)) device sequencer (now (events .entry)) budget (length (now (log .entry)))) ⌝ }
 {
     let words = (image.len() / 12) as u32;
-    let mut last = Reached {
-        answer: Answer::bare(Answer::DONE),
+    let mut last = AccessResult {
+        answer: Answer::status_only(Answer::DONE),
         device,
     };
     let mut x = start(sequencer);
@@ -243,13 +243,13 @@ fn run_words(
             x.place = next.place;
             steps = counted(steps);
         } else if word.kind == word::DELAY {
-            let delayed = last.device.happened(running::tick_event(word));
+            let delayed = last.device.apply_event(device::event::tick_event(word.value));
             last.device = delayed;
             x.place = x.place + 1;
             steps = counted(steps);
         } else {
             let arrived = next_event(last.device, events, x.taken);
-            last = arrived.accessed(running::access_of(word));
+            last = arrived.access(running::access_of(word));
             x = x.answered(word, last.answer.value, events, log);
             steps = counted(steps);
         }

@@ -1,3 +1,3 @@
-pub mod Copy
+pub mod Parts
 pub mod RoundTrip
 pub mod Slices

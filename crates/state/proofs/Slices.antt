@@ -1,4 +1,4 @@
--- A slice of 106 bytes takes a state whole and is read whole; one of another length does neither. Assumes nothing.
+-- A slice of the state's size takes a state whole and is read whole; one of another length does neither. Assumes nothing.
 use Prim.Native.Nat.{ℕ, _+_, _≤_}
 use mathlib.Core.Path.{_≡_, sym, _∙_}
 use mathlib.Core.List.{List, [], append-nil}
@@ -8,7 +8,7 @@ use borrow.Author.Tests.{eq-eqb, ne-eqb}
 use native.Mathlib.Omega.{arith}
 use Rattle.device.specs.declared.Device.{Device}
 use Rattle.state.proofs.RoundTrip.{state-length}
-use Rattle.state.specs.State.{loaded, loadedFrom, refused, saved, stateBytes}
+use Rattle.state.specs.State.{loaded, loadedFrom, refused, saved, stateBytes, stateSize}
 use Rattle.state.specs.declared.Loaded.{Loaded}
 
 -- a part as long as the list that it is put into takes the place of all of it
@@ -19,20 +19,20 @@ whole lent part e =
     rw (take-length part, gone, append-nil)
 
 pub saved-whole :
-    (d : Device) (lent bytes : List ℕ) → length lent ≡ 106 → bytes ≡ paste lent 0 (stateBytes d) (length (stateBytes d))
+    (d : Device) (lent bytes : List ℕ) → length lent ≡ stateSize → bytes ≡ paste lent 0 (stateBytes d) (length (stateBytes d))
     → bytes ≡ saved d lent
 unfolding saved
 saved-whole d lent bytes n e =
-    rw (eq-eqb (length lent) 106 n) (e ∙ whole lent (stateBytes d) (state-length d ∙ sym n))
+    rw (eq-eqb (length lent) stateSize n) (e ∙ whole lent (stateBytes d) (state-length d ∙ sym n))
 
-pub saved-not : (d : Device) (lent : List ℕ) → (length lent ≡ 106 → ⊥) → lent ≡ saved d lent
+pub saved-not : (d : Device) (lent : List ℕ) → (length lent ≡ stateSize → ⊥) → lent ≡ saved d lent
 unfolding saved
-saved-not d lent n = rw (ne-eqb (length lent) 106 n)
+saved-not d lent n = rw (ne-eqb (length lent) stateSize n)
 
-pub loaded-whole : (bytes : List ℕ) (r : Loaded) → length bytes ≡ 106 → r ≡ loadedFrom bytes → r ≡ loaded bytes
+pub loaded-whole : (bytes : List ℕ) (r : Loaded) → length bytes ≡ stateSize → r ≡ loadedFrom bytes → r ≡ loaded bytes
 unfolding loaded
-loaded-whole bytes r n l = rw (eq-eqb (length bytes) 106 n) l
+loaded-whole bytes r n l = rw (eq-eqb (length bytes) stateSize n) l
 
-pub loaded-not : (bytes : List ℕ) → (length bytes ≡ 106 → ⊥) → refused ≡ loaded bytes
+pub loaded-not : (bytes : List ℕ) → (length bytes ≡ stateSize → ⊥) → refused ≡ loaded bytes
 unfolding loaded
-loaded-not bytes n = rw (ne-eqb (length bytes) 106 n)
+loaded-not bytes n = rw (ne-eqb (length bytes) stateSize n)

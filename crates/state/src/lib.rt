@@ -1,13 +1,23 @@
-// A saved device: the state as 106 bytes, in the order of docs/STATE.md, and back.
-mod read;
-mod write;
-
+// A saved device: the blocks' own bytes, one after the other (docs/STATE.md), and back.
+use acpi::Acpi;
+use config::Config;
 use device::Device;
+use key::Key;
+use monitor::Monitor;
 ghost use mathlib.Core.Path.{_≡_};
+ghost use Prim.Native.Nat.{_+_, _≤_};
 ghost use lib.ListN.{length};
-ghost use Rattle.state.specs.State.{stateBytes, loadedFrom, saved, loaded};
+ghost use lib.Seq.{paste};
+ghost use Rattle.state.specs.State.{stateBytes, stateSize, loadedFrom, saved, loaded};
 
-pub const SIZE: usize = 106;
+// Where each block's bytes start, and how many there are in all.
+const KEY_START: usize = Config::SIZE;
+
+const MONITOR_START: usize = KEY_START + Key::SIZE;
+
+const ACPI_START: usize = MONITOR_START + Monitor::SIZE;
+
+pub const SIZE: usize = ACPI_START + Acpi::SIZE;
 
 // A device read from bytes; `valid` is false where no device can hold such a state.
 pub struct Loaded {
@@ -15,57 +25,75 @@ pub struct Loaded {
     pub device: Device,
 }
 
-pub fn bytes_of(device: Device) -> [u8; 106]
-    ensures { λ r. ⌜ r ≡ stateBytes device ⌝ }
+// A part's bytes at a place; the others are as lent.
+fn put(bytes: &mut [u8], at: usize, part: &[u8])
+    requires { ⌜ at + length (now part) ≤ length (now bytes) ⌝ }
+    ensures { λ _. ⌜ now (bytes .exit) ≡ paste (now (bytes .entry)) at (now (part .entry)) (length (now (part .entry))) ⌝ }
 {
-    let config = device.config;
-    let key = device.key;
-    let monitor = device.monitor;
-    let acpi = device.acpi;
-    let mut bytes = [0u8; 106];
-    write::put(&mut bytes, 0, &write::config(config));
-    write::put(&mut bytes, 9, &write::key(key));
-    write::put(&mut bytes, 41, &write::monitor(monitor));
-    write::put(&mut bytes, 61, &write::acpi(acpi));
-    bytes
-}
-
-fn read_from(bytes: &[u8]) -> Loaded
-    requires { ⌜ length (now bytes) ≡ 106 ⌝ }
-    ensures { λ r. ⌜ r ≡ loadedFrom (now (bytes .entry)) ⌝ }
-{
-    let config = read::config(bytes);
-    let key = read::key(bytes);
-    let monitor = read::monitor(bytes);
-    let acpi = read::acpi(bytes);
-    let device = Device {
-        config,
-        key,
-        monitor,
-        acpi,
-    };
-    Loaded {
-        valid: read::is_held(bytes),
-        device,
+    for k in 0..part.len() {
+        bytes[at + k] = part[k];
     }
 }
 
-pub fn device_of(bytes: &[u8; 106]) -> Loaded
+pub fn bytes_of(device: Device) -> [u8; SIZE]
+    ensures { λ r. ⌜ r ≡ stateBytes device ⌝ }
+{
+    let mut bytes = [0u8; SIZE];
+    put(&mut bytes, 0, &device.config.to_bytes());
+    put(&mut bytes, KEY_START, &device.key.to_bytes());
+    put(&mut bytes, MONITOR_START, &device.monitor.to_bytes());
+    put(&mut bytes, ACPI_START, &device.acpi.to_bytes());
+    bytes
+}
+
+// Can a device hold these bytes?
+fn is_saved(config: &[u8], monitor: &[u8], acpi: &[u8]) -> bool
+    requires { ⌜ (length (now config) ≡ 9) × (length (now monitor) ≡ 20) × (length (now acpi) ≡ 45) ⌝ }
+    ensures { λ r. ⌜ r ≡ allHold (configSaved (now (config .entry)) ∷ monitorSaved (now (monitor .entry)) ∷ acpiSaved (now (acpi .entry)) ∷ []) ⌝ }
+{
+    if !Config::is_saved(config) {
+        return false;
+    }
+    if !Monitor::is_saved(monitor) {
+        return false;
+    }
+    Acpi::is_saved(acpi)
+}
+
+fn read_from(bytes: &[u8]) -> Loaded
+    requires { ⌜ length (now bytes) ≡ stateSize ⌝ }
+    ensures { λ r. ⌜ r ≡ loadedFrom (now (bytes .entry)) ⌝ }
+{
+    let config = &bytes[..KEY_START];
+    let key = &bytes[KEY_START..MONITOR_START];
+    let monitor = &bytes[MONITOR_START..ACPI_START];
+    let acpi = &bytes[ACPI_START..];
+    let valid = is_saved(config, monitor, acpi);
+    let device = Device {
+        config: Config::from_bytes(config),
+        acpi: Acpi::from_bytes(acpi),
+        monitor: Monitor::from_bytes(monitor),
+        key: Key::from_bytes(key),
+    };
+    Loaded { valid, device }
+}
+
+pub fn device_of(bytes: &[u8; SIZE]) -> Loaded
     ensures { λ r. ⌜ r ≡ loadedFrom (now (bytes .entry)) ⌝ }
 {
     read_from(bytes)
 }
 
-// Writes the state into a slice of 106 bytes; one of another length is left as it is.
+// Writes the state into a slice of its size; one of another length is left as it is.
 pub fn save(device: Device, bytes: &mut [u8])
     ensures { λ _. ⌜ now (bytes .exit) ≡ saved device (now (bytes .entry)) ⌝ }
 {
     if bytes.len() == SIZE {
-        write::put(bytes, 0, &bytes_of(device));
+        put(bytes, 0, &bytes_of(device));
     }
 }
 
-// The state in a slice; of a slice that is not 106 bytes long it is not valid.
+// The state in a slice; of a slice of another length it is not valid.
 pub fn load(bytes: &[u8]) -> Loaded
     ensures { λ r. ⌜ r ≡ loaded (now (bytes .entry)) ⌝ }
 {

@@ -1,6 +1,6 @@
 -- `runnelopal::runnelopal_access` meets its contract: bytes that are no state are refused, and else the device answers.
 -- Assumes nothing.
-use Rattle.device.specs.declared.lone.Accessed.{Accessed}
+use Rattle.device.specs.declared.lone.LoneAccess.{LoneAccess}
 use mathlib.Core.Path.{ap, _∙_}
 use borrow.Author.Needs.{needs}
 use Rattle.runnelopal.proofs.Saved.{access-answered, access-no-state}
@@ -17,8 +17,8 @@ access-requires c κs = search needs
 keep-requires : tie.Need-keep-requires
 keep-requires c κs = search needs
 
-put-accessed-requires : tie.Need-put-accessed-requires
-put-accessed-requires c κs = search needs
+put-access-requires : tie.Need-put-access-requires
+put-access-requires c κs = search needs
 
 same-length : tie.Need-same-length
 same-length c = search needs
@@ -31,15 +31,15 @@ returns c =
     let e =
     access-answered _ _ _ _ (c .before .before .before .before .before .before .before .before .before .before .before .before .load .ensures) (c .before .before .before .before .before .before .before .before .before .before .if1 .taken)
     (c .before .before .before .before .before .before .before .before .before .access .ensures) in (
-      ap (λ (x : Accessed). x .refusal) e,
-      (c .before .before .before .before .before .before .keep .ensures ∙ rw e, c .before .before .put-accessed .ensures ∙ rw e),
+      ap (λ (x : LoneAccess). x .refusal) e,
+      (c .before .before .before .before .before .before .keep .ensures ∙ rw e, c .before .before .put-access .ensures ∙ rw e),
     )
 
 access-refused-requires : tie.Need-access-refused-requires
 access-refused-requires c κs = search needs
 
-put-accessed-requires-2 : tie.Need-put-accessed-requires-2
-put-accessed-requires-2 c κs = search needs
+put-access-requires-2 : tie.Need-put-access-requires-2
+put-access-requires-2 c κs = search needs
 
 same-length-3 : tie.Need-same-length-3
 same-length-3 c = search needs
@@ -51,8 +51,8 @@ returns-2 : tie.Need-returns-2
 returns-2 c =
     let refused = c .before .before .before .before .access-refused .ensures in
     let e = access-no-state _ (accessOf (c .before .before .before .before .before .before .before .before .before .before .before .args .write) (c .before .before .before .before .before .before .before .before .before .before .before .args .width) (c .before .before .before .before .before .before .before .before .before .before .before .args .port) (c .before .before .before .before .before .before .before .before .before .before .before .args .value)) _ _ (c .before .before .before .before .before .before .before .load .ensures) (c .before .before .before .before .before .if1 .left) refused in (
-      ap (λ (x : Accessed). x .refusal) e,
-      (rw (← e, refused), c .before .before .put-accessed2 .ensures ∙ rw e),
+      ap (λ (x : LoneAccess). x .refusal) e,
+      (rw (← e, refused), c .before .before .put-access2 .ensures ∙ rw e),
     )
 
 pub runnelopal-access-spec : {M : Type 1} → statement M
@@ -62,12 +62,12 @@ runnelopal-access-spec =
     load-requires
     access-requires
     keep-requires
-    put-accessed-requires
+    put-access-requires
     same-length
     same-length-2
     returns
     access-refused-requires
-    put-accessed-requires-2
+    put-access-requires-2
     same-length-3
     same-length-4
     returns-2)

@@ -1,6 +1,6 @@
 -- `runnelopal::runnelopal_event` meets its contract: bytes that are no state are refused, and else the device answers.
 -- Assumes nothing.
-use Rattle.device.specs.declared.lone.Happened.{Happened}
+use Rattle.device.specs.declared.lone.LoneEvent.{LoneEvent}
 use mathlib.Core.Path.{ap, _∙_}
 use borrow.Author.Needs.{needs}
 use Rattle.runnelopal.proofs.Saved.{event-answered, event-no-state}
@@ -16,8 +16,8 @@ event-requires c κs = search needs
 keep-requires : tie.Need-keep-requires
 keep-requires c κs = search needs
 
-put-happened-requires : tie.Need-put-happened-requires
-put-happened-requires c κs = search needs
+put-event-requires : tie.Need-put-event-requires
+put-event-requires c κs = search needs
 
 same-length : tie.Need-same-length
 same-length c = search needs
@@ -30,15 +30,15 @@ returns c =
     let e =
     event-answered _ _ _ _ (c .before .before .before .before .before .before .before .before .before .before .before .before .load .ensures) (c .before .before .before .before .before .before .before .before .before .before .if1 .taken)
     (c .before .before .before .before .before .before .before .before .before .event .ensures) in (
-      ap (λ (x : Happened). x .refusal) e,
-      (c .before .before .before .before .before .before .keep .ensures ∙ rw e, c .before .before .put-happened .ensures ∙ rw e),
+      ap (λ (x : LoneEvent). x .refusal) e,
+      (c .before .before .before .before .before .before .keep .ensures ∙ rw e, c .before .before .put-event .ensures ∙ rw e),
     )
 
 event-refused-requires : tie.Need-event-refused-requires
 event-refused-requires c κs = search needs
 
-put-happened-requires-2 : tie.Need-put-happened-requires-2
-put-happened-requires-2 c κs = search needs
+put-event-requires-2 : tie.Need-put-event-requires-2
+put-event-requires-2 c κs = search needs
 
 same-length-3 : tie.Need-same-length-3
 same-length-3 c = search needs
@@ -50,8 +50,8 @@ returns-2 : tie.Need-returns-2
 returns-2 c =
     let refused = c .before .before .before .before .event-refused .ensures in
     let e = event-no-state _ (c .before .before .before .before .before .before .before .before .before .before .before .args .number) _ _ (c .before .before .before .before .before .before .before .load .ensures) (c .before .before .before .before .before .if1 .left) refused in (
-      ap (λ (x : Happened). x .refusal) e,
-      (rw (← e, refused), c .before .before .put-happened2 .ensures ∙ rw e),
+      ap (λ (x : LoneEvent). x .refusal) e,
+      (rw (← e, refused), c .before .before .put-event2 .ensures ∙ rw e),
     )
 
 pub runnelopal-event-spec : {M : Type 1} → statement M
@@ -61,12 +61,12 @@ runnelopal-event-spec =
     load-requires
     event-requires
     keep-requires
-    put-happened-requires
+    put-event-requires
     same-length
     same-length-2
     returns
     event-refused-requires
-    put-happened-requires-2
+    put-event-requires-2
     same-length-3
     same-length-4
     returns-2)

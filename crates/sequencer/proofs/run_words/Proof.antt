@@ -6,8 +6,8 @@ use mathlib.Core.Path.{_≡_, ap, refl, sym, _∙_}
 use native.Mathlib.Omega.{arith}
 use borrow.Author.Needs.{needs}
 use lib.ListN.{length}
-use Rattle.device.specs.Event.{happened}
-use Rattle.device.specs.Reach.{accessed}
+use Rattle.device.specs.Event.{applyEvent}
+use Rattle.device.specs.Dispatch.{deviceAccess}
 use Rattle.machine.proofs.EachKind.{delayed-by}
 use Rattle.machine.proofs.Faults.{can-access, can-delay, can-turn}
 use Rattle.machine.specs.Holds.{Does, Running, running}
@@ -128,8 +128,8 @@ access-of t = t .before .before .before .before
 cast-words : tie.Need-cast-words Inv-loop μ-loop
 cast-words c = omega arith
 
-bare-requires : tie.Need-bare-requires Inv-loop μ-loop
-bare-requires c κs = search needs
+status-only-requires : tie.Need-status-only-requires Inv-loop μ-loop
+status-only-requires c κs = search needs
 
 start-requires : tie.Need-start-requires Inv-loop μ-loop
 start-requires c κs = c .before .before .before .before .pre .1
@@ -220,8 +220,8 @@ tick-event-requires c κs =
     let w = delay-of c in
     can-delay _ _ (executed-at w .loop .x) (word (fetch-of w)) (faultless w) (c .if5 .taken)
 
-happened-requires : tie.Need-happened-requires Inv-loop μ-loop
-happened-requires c κs = search needs
+apply-event-requires : tie.Need-apply-event-requires Inv-loop μ-loop
+apply-event-requires c κs = search needs
 
 add-x : tie.Need-add-x Inv-loop μ-loop
 add-x c = let p = place-small (fetch-of (delay-of (c .before .before .before))) in omega (arith, p)
@@ -236,7 +236,7 @@ loop-again-2 : tie.Need-loop-again-2 Inv-loop μ-loop
 loop-again-2 c = λ s h q.
     let t = c .before .before .before .before in
     let w = delay-of t in
-    let ticked = c .before .before .happened .ensures ∙ ap (happened _) (c .before .before .before .tick-event .ensures) in
+    let ticked = c .before .before .apply-event .ensures ∙ ap (applyEvent _) (c .before .before .before .tick-event .ensures) in
     rw (c .counted2 .ensures)
     (next-word w (delayed-by (word (fetch-of w)) (state (executed-at w)) _ (t .if5 .taken) ticked _ _) refl s h q)
 
@@ -247,8 +247,8 @@ next-event-requires c κs = search needs
 access-of-requires : tie.Need-access-of-requires Inv-loop μ-loop
 access-of-requires c κs = search needs
 
-accessed-requires : tie.Need-accessed-requires Inv-loop μ-loop
-accessed-requires c κs = search needs
+access-requires : tie.Need-access-requires Inv-loop μ-loop
+access-requires c κs = search needs
 
 answered-requires : tie.Need-answered-requires Inv-loop μ-loop
 answered-requires c κs =
@@ -269,7 +269,7 @@ loop-again-3 c = λ s h q.
     let answer = c .before .before .before in
     let access = answer .before .before in
     let t = access .before .before .before in
-    let done = access .accessed .ensures ∙ ap (accessed _) (access .before .access-of .ensures) in
+    let done = access .access .ensures ∙ ap (deviceAccess _) (access .before .access-of .ensures) in
     rw (c .counted3 .ensures)
     (next-word (access-of t) (answer .answered .ensures _ _ _ _ (access .before .before .next-event .ensures) done refl) (answer .answered .kept .1 .1 .1 .1 .0) s h q)
 
@@ -290,7 +290,7 @@ run-words-spec =
     Inv-loop
     μ-loop
     cast-words
-    bare-requires
+    status-only-requires
     start-requires
     counters-of-requires
     loop-holds
@@ -314,14 +314,14 @@ run-words-spec =
     loop-less
     loop-again
     tick-event-requires
-    happened-requires
+    apply-event-requires
     add-x
     counted-requires-2
     loop-less-2
     loop-again-2
     next-event-requires
     access-of-requires
-    accessed-requires
+    access-requires
     answered-requires
     counted-requires-3
     loop-less-3

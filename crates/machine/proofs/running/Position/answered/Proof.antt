@@ -3,7 +3,7 @@ use Rattle.machine.specs.Holds.{running}
 use mathlib.Core.Path.{ap, _∙_}
 use mathlib.Core.Bool.{not}
 use native.Mathlib.Omega.{arith}
-use Rattle.device.specs.Reach.{accessed}
+use Rattle.device.specs.Dispatch.{deviceAccess}
 use Rattle.machine.proofs.EachKind.{access-read, access-write, read-out, test-failed, test-passed, wrote}
 use borrow.Author.Tests.{eq-eqb, ne-eqb}
 use borrow.Author.Needs.{needs, scaled-fits}
@@ -41,7 +41,7 @@ returns c =
     (record {
       arrived = arrived;
       applied = a;
-      answered = g ∙ ap (accessed arrived) (access-read (e .args .word) (λ q. omega (arith, k, q)));
+      answered = g ∙ ap (deviceAccess arrived) (access-read (e .args .word) (λ q. omega (arith, k, q)));
       inside = t .taken-behind .ensures .0;
       left = t .taken-behind .ensures .1;
     }) v (e .pre .2 .reads k)
@@ -58,7 +58,7 @@ returns-2 c =
     (record {
       arrived = arrived;
       applied = a;
-      answered = g ∙ ap (accessed arrived) (access-write (e .args .word) k);
+      answered = g ∙ ap (deviceAccess arrived) (access-write (e .args .word) k);
       inside = t .taken-behind .ensures .0;
       left = t .taken-behind .ensures .1;
     }) (e .args .log .now)
@@ -72,7 +72,7 @@ returns-3 c =
     (record {
       arrived = arrived;
       applied = a;
-      answered = g ∙ ap (accessed arrived) (access-read (e .args .word) (c .before .before .if2 .left));
+      answered = g ∙ ap (deviceAccess arrived) (access-read (e .args .word) (c .before .before .if2 .left));
       inside = t .taken-behind .ensures .0;
       left = t .taken-behind .ensures .1;
     }) v (ap not (eq-eqb _ _ (c .if3 .taken))) (e .args .log .now)
@@ -89,7 +89,7 @@ returns-4 c =
     (record {
       arrived = arrived;
       applied = a;
-      answered = g ∙ ap (accessed arrived) (access-read (e .args .word) (c .before .before .before .if2 .left));
+      answered = g ∙ ap (deviceAccess arrived) (access-read (e .args .word) (c .before .before .before .if2 .left));
       inside = t .taken-behind .ensures .0;
       left = t .taken-behind .ensures .1;
     }) v (ap not (ne-eqb _ _ (c .before .if3 .left))) (e .args .log .now)

@@ -1,7 +1,7 @@
--- `runnelopal::put_happened` meets its contract. Assumes nothing.
+-- `runnelopal::put_event` meets its contract. Assumes nothing.
 use borrow.Author.Needs.{needs}
-use Rattle.runnelopal.proofs.put_happened.Statement.{statement}
-use Rattle.runnelopal.proofs.put_happened.Tie as tie
+use Rattle.runnelopal.proofs.put_event.Statement.{statement}
+use Rattle.runnelopal.proofs.put_event.Tie as tie
 
 cast-put : tie.Need-cast-put
 cast-put c = search needs
@@ -18,6 +18,6 @@ same-length c = search needs
 returns : tie.Need-returns
 returns c = simp (c .before .before .before .before .before .before .put .ensures, c .before .before .put-outputs .ensures)
 
-pub put-happened-spec : {M : Type 1} → statement M
-put-happened-spec =
+pub put-event-spec : {M : Type 1} → statement M
+put-event-spec =
     tie.close (tie.spec cast-put put-requires put-outputs-requires same-length returns)

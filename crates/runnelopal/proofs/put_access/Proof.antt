@@ -1,7 +1,7 @@
--- `runnelopal::put_accessed` meets its contract. Assumes nothing.
+-- `runnelopal::put_access` meets its contract. Assumes nothing.
 use borrow.Author.Needs.{needs}
-use Rattle.runnelopal.proofs.put_accessed.Statement.{statement}
-use Rattle.runnelopal.proofs.put_accessed.Tie as tie
+use Rattle.runnelopal.proofs.put_access.Statement.{statement}
+use Rattle.runnelopal.proofs.put_access.Tie as tie
 
 cast-put : tie.Need-cast-put
 cast-put c = search needs
@@ -30,8 +30,8 @@ same-length c = search needs
 returns : tie.Need-returns
 returns c = simp (c .before .before .before .before .before .before .before .before .before .before .before .before .before .before .before .before .put .ensures, c .before .before .before .before .before .before .before .before .before .before .before .put2 .ensures, c .before .before .before .before .before .before .put3 .ensures, c .before .before .put-outputs .ensures)
 
-pub put-accessed-spec : {M : Type 1} → statement M
-put-accessed-spec =
+pub put-access-spec : {M : Type 1} → statement M
+put-access-spec =
     tie.close
     (tie.spec
     cast-put

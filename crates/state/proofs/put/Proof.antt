@@ -1,4 +1,4 @@
--- `state::write::put` meets its contract: the loop has put the first `k` bytes of the part at their place.
+-- `state::put` meets its contract: the loop has put the first `k` bytes of the part at their place.
 -- Assumes nothing.
 use Prim.Native.Nat.{ℕ, _+_, _≤_, _-_}
 use mathlib.Core.Path.{_≡_, ap, sym, _∙_}
@@ -7,8 +7,8 @@ use lib.ListN.{getD, length, length-set, set}
 use lib.Seq.{paste, paste-suc, paste-zero}
 use native.Mathlib.Numerals.{add-one}
 use native.Mathlib.Omega.{arith}
-use Rattle.state.proofs.write.put.Statement.{statement}
-use Rattle.state.proofs.write.put.Tie as tie
+use Rattle.state.proofs.put.Statement.{statement}
+use Rattle.state.proofs.put.Tie as tie
 
 abbrev Inv-loop : tie.InvT-loop
 Inv-loop bytes₀ at part k₀ k-end bytes k =
