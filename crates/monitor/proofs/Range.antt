@@ -1,144 +1,122 @@
--- The fresh monitor is in range, and index, data and sensor leave it so: what is stored is masked, or set or cleared
--- within the mask, and each register that can change has a place of its own. Assumes nothing.
-use Prim.Native.Nat.{ℕ, _-_, _≤_, _<_}
+-- The fresh monitor is in range, and reset, access and event leave it so: what is stored is masked, or set or cleared within
+-- the mask, and each register that can change has a slot of its own. Assumes nothing.
+use Prim.Native.Nat.{ℕ, _-_, _%_, _<_}
 use mathlib.Core.Path.{_≡_, refl}
-use mathlib.Core.Bool.{Bool, true, false, _&&_, _||_, and-false}
-use mathlib.Core.List.{List, [], _∷_}
-use native.Mathlib.Decide.{decLt}
+use mathlib.Core.Bool.{true}
+use mathlib.Core.List.{map}
 use native.Mathlib.Omega.{arith}
-use borrow.Author.Tests.{eqb-true, eqb-false, lt-leb, ltb-true}
-use lib.Bits.{bitAnd, bitOr}
-use lib.Dec.{eqb, leb, ltb}
+use borrow.Author.Tests.{eqb-true, ltb-true}
+use lib.Bits.{and-mask, bitAnd, bitOr}
+use lib.Dec.{eqb, ltb}
 use lib.ListN.{getD}
+use Rattle.access.specs.Block.{Result}
+use Rattle.access.specs.declared.Access.{Access}
 use Rattle.mask.proofs.Branch.{branch, branch-on}
-use Rattle.mask.proofs.Every.{all-at, and-left, and-right}
+use Rattle.mask.proofs.Every.{all-at, all-true}
 use Rattle.mask.proofs.Mask.{within-and, within-masked, within-or}
 use Rattle.mask.proofs.Store.{all-stored}
-use Rattle.mask.specs.Every.{allBelow}
 use Rattle.mask.specs.Mask.{cleared, within}
-use Rattle.monitor.proofs.Tables.{slot-below}
+use Rattle.monitor.proofs.Table.{map-at, reset-within, slot-below, stored-at-slot}
 use Rattle.monitor.specs.Monitor.{
+  dataRead,
   freshMonitor,
-  heldWritten,
-  Written,
   lockSet,
-  monitorDataWritten,
+  lockableWrite,
+  monitorAccess,
+  monitorEvent,
   monitorInRange,
-  monitorIndexWritten,
+  monitorReset,
   register,
   sensed,
-  slotInRange,
   stored,
+  takes,
+  writeAs,
 }
 use Rattle.monitor.specs.Table.{
-  Row,
   absent,
-  clear,
-  free,
   kindOf,
   lock,
+  lockable,
   maskOf,
   readOnly,
   resetOf,
-  rowIn,
   slotOf,
   storedIndices,
-  table,
+  unlocked,
+  write1Clears,
 }
 use Rattle.monitor.specs.declared.Monitor.{Monitor}
 
--- ---- each register that can change has a place of its own: computed over the 256 indices; no row lies above them
-abbrev placed : ℕ → Bool
-placed i = eqb (kindOf i) absent || (eqb (kindOf i) readOnly || eqb (getD storedIndices (slotOf i) 0) i)
+-- each reset lies within its mask, so the fresh monitor does
+pub fresh-in-range : monitorInRange freshMonitor ≡ true
+fresh-in-range =
+    all-true 12 (λ k. within (maskOf (getD storedIndices k 0)) (getD (map resetOf storedIndices) k 0))
+    (λ k l. rw (map-at resetOf storedIndices k l) (reset-within (getD storedIndices k 0)
+    (ltb-true (getD storedIndices k 0) 256 (all-at 12 (λ j. ltb (getD storedIndices j 0) 256) refl k l))))
 
-all-placed : allBelow 256 placed ≡ true
-unfolding kindOf slotOf
-all-placed = refl
-
-abbrev low : List Row → Bool
-low [] = true
-low (r ∷ rs) = ltb (r .last) 256 && low rs
-
-above : (i : ℕ) (rs : List Row) → 256 ≤ i → low rs ≡ true → rowIn i rs .kind ≡ absent
-above i [] h l = refl
-above i (r ∷ rs) h l =
-    let last = ltb-true (r .last) 256 (and-left (ltb (r .last) 256) (low rs) l) in
-    rw (lt-leb i (r .last) (omega arith), and-false (leb (r .first) i))
-    (above i rs h (and-right (ltb (r .last) 256) (low rs) l))
-
-kind-above : (i : ℕ) → 256 ≤ i → kindOf i ≡ absent
-unfolding kindOf
-kind-above i h = above i table h refl
-
-own-place : (i : ℕ) → eqb (kindOf i) absent ≡ false → eqb (kindOf i) readOnly ≡ false
-    → getD storedIndices (slotOf i) 0 ≡ i
-own-place i a r = pick (decLt i 256)
-  where
-    pick : Dec (i < 256) → getD storedIndices (slotOf i) 0 ≡ i
-    pick (yes l) = eqb-true (getD storedIndices (slotOf i) 0) i (rw (a, r) at (all-at 256 placed all-placed i l))
-    pick (no l) = absurd (eqb-false (kindOf i) absent a (kind-above i (omega arith)))
-
--- ---- the registers
-pub fresh-monitor : monitorInRange freshMonitor ≡ true
-unfolding monitorInRange freshMonitor maskOf resetOf
-fresh-monitor = refl
-
--- the monitor after a write is in range
-abbrev Kept : Written → Type 0
-Kept w = monitorInRange (w .monitor) ≡ true
+-- the monitor after an access is in range
+abbrev Kept : Result Monitor → Type 0
+Kept r = monitorInRange (r .block) ≡ true
 
 module _ (m : Monitor) (h : monitorInRange m ≡ true) where
-  pub monitor-index-written : (v : ℕ) → monitorInRange (monitorIndexWritten m v) ≡ true
-  unfolding monitorInRange
-  monitor-index-written v = h
+  pub reset-in-range : (level : ℕ) → monitorInRange (monitorReset m level) ≡ true
+  reset-in-range level = branch (λ n. monitorInRange n ≡ true) (eqb level 0) h fresh-in-range
 
-  now : (slot : ℕ) → slot < 12 → slotInRange (m .registers) slot ≡ true
-  unfolding monitorInRange
-  now slot l = all-at 12 (slotInRange (m .registers)) h slot l
+  -- ---- the register at an index whose kind can change
+  module _ (i : ℕ) (s : readOnly < kindOf i) where
+    register-within : within (maskOf i) (register m i) ≡ true
+    register-within =
+        rw (stored-at-slot i s) at (all-at 12 (λ k. within (maskOf (getD storedIndices k 0)) (getD (m .registers) k 0)) h
+        (slotOf i) (slot-below i s))
 
-  kept-stored : (slot v : ℕ) → within (maskOf (getD storedIndices slot 0)) v ≡ true → monitorInRange (stored m slot v) ≡ true
-  unfolding monitorInRange
-  kept-stored slot v k = all-stored 12 (λ i. within (maskOf (getD storedIndices i 0))) (m .registers) slot v k h
+    stored-in-range : (v : ℕ) → within (maskOf i) v ≡ true → monitorInRange (stored m i v) ≡ true
+    stored-in-range v k =
+        all-stored 12 (λ k. within (maskOf (getD storedIndices k 0))) (m .registers) (slotOf i) v
+        (rw (stored-at-slot i s) k) h
 
-  pub monitor-sensed : (bits : ℕ) → within 0x03 bits ≡ true → monitorInRange (sensed m bits) ≡ true
-  unfolding maskOf
-  monitor-sensed bits k =
-      kept-stored 6 (bitOr (getD (m .registers) 6 0) bits)
-      (within-or 0x03 (getD (m .registers) 6 0) bits (now 6 (omega arith)) k)
+    lockable-in-range : (v : ℕ) → within (maskOf i) v ≡ true → Kept (lockableWrite m i v)
+    unfolding lockableWrite
+    lockable-in-range v k = branch Kept (lockSet m) h (stored-in-range v k)
 
-  -- ---- the data register, of a kind that can change
-  cleared-stored : (v : ℕ) → monitorInRange (stored m (slotOf (m .index)) (cleared 0xFF (register m (m .index)) v)) ≡ true
-  cleared-stored v =
-      kept-stored (slotOf (m .index)) (cleared 0xFF (register m (m .index)) v)
-      (within-and (maskOf (getD storedIndices (slotOf (m .index)) 0)) (register m (m .index)) (0xFF - v)
-      (now (slotOf (m .index)) (slot-below (m .index))))
+  module _ (i v : ℕ) where
+    masked : within (maskOf i) (bitAnd v (maskOf i)) ≡ true
+    masked = within-masked (maskOf i) v
 
-  module _
-      (v : ℕ)
-      (a : eqb (kindOf (m .index)) absent ≡ false)
-      (r : eqb (kindOf (m .index)) readOnly ≡ false)
-    where
-      masked : within (maskOf (getD storedIndices (slotOf (m .index)) 0)) (bitAnd v (maskOf (m .index))) ≡ true
-      masked = rw (own-place (m .index) a r) (within-masked (maskOf (m .index)) v)
+    write-in-range : (kind : ℕ) → kind ≡ kindOf i → Kept (writeAs kind m i v)
+    unfolding writeAs
+    write-in-range kind e =
+        branch-on Kept (eqb kind lock)
+        (λ t. lockable-in-range i (changes lock t (omega arith)) (bitOr (register m i) (bitAnd v (maskOf i)))
+        (within-or (maskOf i) (register m i) (bitAnd v (maskOf i)) (register-within i (changes lock t (omega arith))) masked))
+        (λ _. branch Kept (eqb kind readOnly) h
+        (branch-on Kept (eqb kind lockable)
+        (λ t. lockable-in-range i (changes lockable t (omega arith)) (bitAnd v (maskOf i)) masked)
+        (λ _. branch-on Kept (eqb kind write1Clears)
+        (λ t. stored-in-range i (changes write1Clears t (omega arith)) (cleared 0xFF (register m i) v)
+        (within-and (maskOf i) (register m i) (0xFF - v) (register-within i (changes write1Clears t (omega arith)))))
+        (λ _. branch-on Kept (eqb kind unlocked)
+        (λ t. stored-in-range i (changes unlocked t (omega arith)) (bitAnd v (maskOf i)) masked)
+        (λ _. h)))))
+      where
+        changes : (k : ℕ) → eqb kind k ≡ true → readOnly < k → readOnly < kindOf i
+        changes k t l = let d = eqb-true kind k t in omega (arith, d, e, l)
 
-      masked-stored : monitorInRange (stored m (slotOf (m .index)) (bitAnd v (maskOf (m .index)))) ≡ true
-      masked-stored = kept-stored (slotOf (m .index)) (bitAnd v (maskOf (m .index))) masked
+  read-in-range : Kept (dataRead m)
+  unfolding dataRead
+  read-in-range = branch Kept (eqb (kindOf (m .index)) absent) h h
 
-      held-written : Kept (heldWritten m v)
-      held-written =
-          branch Kept (lockSet m) h
-          (branch Kept (eqb (kindOf (m .index)) lock)
-          (kept-stored (slotOf (m .index)) (bitOr (register m (m .index)) (bitAnd v (maskOf (m .index))))
-          (within-or (maskOf (getD storedIndices (slotOf (m .index)) 0)) (register m (m .index))
-          (bitAnd v (maskOf (m .index)))
-          (now (slotOf (m .index)) (slot-below (m .index)))
-          masked))
-          masked-stored)
+  pub access-in-range : (offset : ℕ) (x : Access) → monitorInRange (monitorAccess m offset x .block) ≡ true
+  unfolding monitorAccess
+  access-in-range offset x =
+      branch Kept (takes (x .width))
+      (branch Kept (eqb offset 0) (branch Kept (x .write) h h)
+      (branch Kept (x .write) (write-in-range (m .index) (x .value % 256) (kindOf (m .index)) refl) read-in-range))
+      h
 
-  pub monitor-data-written : (v : ℕ) → monitorInRange (monitorDataWritten m v .monitor) ≡ true
-  unfolding monitorDataWritten
-  monitor-data-written v =
-      branch-on Kept (eqb (kindOf (m .index)) absent) (λ a. h)
-      (λ a. branch-on Kept (eqb (kindOf (m .index)) readOnly) (λ r. h)
-      (λ r. branch Kept (eqb (kindOf (m .index)) clear) (cleared-stored v)
-      (branch Kept (eqb (kindOf (m .index)) free) (masked-stored v a r) (held-written v a r))))
+  pub event-in-range : (kind operand : ℕ) → monitorInRange (monitorEvent m kind operand) ≡ true
+  event-in-range kind operand =
+      branch (λ n. monitorInRange n ≡ true) (eqb kind 5)
+      (stored-in-range 0x83 (omega arith) (bitOr (register m 0x83) (operand % 4))
+      (within-or 0x03 (register m 0x83) (operand % 4) (register-within 0x83 (omega arith))
+      (rw (← (and-mask operand 2)) (within-masked 0x03 operand))))
+      h

@@ -1,2 +1,3 @@
 pub mod Monitor
+pub mod Saved
 pub mod Table

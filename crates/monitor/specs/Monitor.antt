@@ -1,84 +1,110 @@
--- Document 01, "Monitor registers": index, data, Lock, the interrupt, and the sensor event.
-use Prim.Native.Nat.{ℕ}
+-- Document 01, "Monitor registers": index, data, Lock, the interrupt, the sensor event, and the reset.
+use Prim.Native.Nat.{ℕ, _%_}
 use mathlib.Core.Bool.{Bool, cond, _&&_, _||_}
 use mathlib.Core.List.{List, map}
 use lib.Bits.{bitAnd, bitOr}
 use lib.Dec.{eqb}
 use lib.ListN.{getD, set}
-use Rattle.access.specs.declared.Answer.{Answer}
-use Rattle.access.specs.Status.{done, bare}
-use Rattle.mask.specs.Every.{allBelow}
+use Rattle.access.specs.Block.{Result, result, status}
+use Rattle.access.specs.Status.{done}
+use Rattle.access.specs.declared.Access.{Access}
 use Rattle.mask.specs.Mask.{within, cleared, hasBit}
-use Rattle.monitor.specs.Table.{absent, readOnly, lock, free, clear, kindOf, resetOf, maskOf, slotOf, storedIndices}
+use Rattle.monitor.specs.Table.{
+  absent,
+  readOnly,
+  lock,
+  lockable,
+  unlocked,
+  write1Clears,
+  allOf,
+  kindOf,
+  resetOf,
+  maskOf,
+  slotOf,
+  storedIndices,
+}
 use Rattle.monitor.specs.declared.Monitor.{Monitor}
-
--- "Reset 1 also the monitor, its index and Lock."
-unfoldable pub freshMonitor : Monitor
-freshMonitor = record { index = 0; registers = map resetOf storedIndices }
-
--- what the register at an index holds, of those that can change
-abbrev pub register : Monitor → ℕ → ℕ
-register m i = getD (m .registers) (slotOf i) 0
 
 abbrev pub monitor : ℕ → List ℕ → Monitor
 monitor index registers = record { index = index; registers = registers }
 
+-- the register at an index, of those that can change
+abbrev pub register : Monitor → ℕ → ℕ
+register m i = getD (m .registers) (slotOf i) 0
+
+-- the monitor with a value in that register
 abbrev pub stored : Monitor → ℕ → ℕ → Monitor
-stored m slot v = monitor (m .index) (set (m .registers) slot v)
+stored m i v = monitor (m .index) (set (m .registers) (slotOf i) v)
 
--- the status of a write, and the monitor after it
-pub record Written : Type 0 where
-  pub status : ℕ
-  pub monitor : Monitor
+-- what the register at a listed index reads: a read-only register is at its reset
+abbrev pub registerOf : Monitor → ℕ → ℕ
+registerOf m i = cond (eqb (kindOf i) readOnly) (resetOf i) (register m i)
 
-abbrev pub written : ℕ → Monitor → Written
-written s m = record { status = s; monitor = m }
+-- ---- "Reset 1 also the monitor, its index and Lock."
+abbrev pub freshMonitor : Monitor
+freshMonitor = monitor 0 (map resetOf storedIndices)
+
+abbrev pub monitorReset : Monitor → ℕ → Monitor
+monitorReset m level = cond (eqb level 0) m freshMonitor
 
 -- "State in range: every register within its mask"
-abbrev pub slotInRange : List ℕ → ℕ → Bool
-slotInRange registers k = within (maskOf (getD storedIndices k 0)) (getD registers k 0)
+abbrev pub monitorInRange : Monitor → Bool
+monitorInRange m = allOf storedIndices (λ i. within (maskOf i) (register m i))
 
-unfoldable pub monitorInRange : Monitor → Bool
-monitorInRange m = allBelow 12 (slotInRange (m .registers))
+-- ---- the index: "One byte index, readable, and data."
+abbrev pub withIndex : Monitor → ℕ → Monitor
+withIndex m v = monitor v (m .registers)
+
+abbrev pub indexAccess : Monitor → Access → Result Monitor
+indexAccess m x = cond (x .write) (status 0 (withIndex m (x .value % 256))) (result (done (m .index)) m)
+
+-- ---- the data register. "those not listed are status 4"
+unfoldable pub dataRead : Monitor → Result Monitor
+dataRead m = cond (eqb (kindOf (m .index)) absent) (status 4 m) (result (done (registerOf m (m .index))) m)
 
 -- "40h: Lock is bit 1"
 abbrev pub lockSet : Monitor → Bool
-lockSet m = hasBit 0x02 (getD (m .registers) 0 0)
+lockSet m = hasBit 0x02 (register m 0x40)
 
--- ---- the data register. "those not listed are status 4"
-unfoldable pub monitorDataRead : Monitor → Answer
-monitorDataRead m =
-    cond (eqb (kindOf (m .index)) absent) (bare 4)
-    (cond (eqb (kindOf (m .index)) readOnly) (done (resetOf (m .index))) (done (register m (m .index))))
+-- "A locked register written while Lock is set: status 2."
+unfoldable pub lockableWrite : Monitor → ℕ → ℕ → Result Monitor
+lockableWrite m i v = cond (lockSet m) (status 2 m) (status 0 (stored m i v))
 
-abbrev pub monitorIndexWritten : Monitor → ℕ → Monitor
-monitorIndexWritten m v = record { index = v; registers = m .registers }
+-- a write to the register at an index, by its kind, in the table's order. "Lock is bit 1: writing 1 sets it, 0 does nothing"
+unfoldable pub writeAs : ℕ → Monitor → ℕ → ℕ → Result Monitor
+writeAs kind m i v =
+    cond (eqb kind lock) (lockableWrite m i (bitOr (register m i) (bitAnd v (maskOf i))))
+    (cond (eqb kind readOnly) (status 2 m)
+    (cond (eqb kind lockable) (lockableWrite m i (bitAnd v (maskOf i)))
+    (cond (eqb kind write1Clears) (status 0 (stored m i (cleared 0xFF (register m i) v)))
+    (cond (eqb kind unlocked) (status 0 (stored m i (bitAnd v (maskOf i)))) (status 4 m)))))
 
--- "A locked register written while Lock is set: status 2." "Lock is bit 1: writing 1 sets it, 0 does nothing"
-abbrev pub heldWritten : Monitor → ℕ → Written
-heldWritten m v =
-    cond (lockSet m) (written 2 m)
-    (cond (eqb (kindOf (m .index)) lock)
-    (written 0 (stored m (slotOf (m .index)) (bitOr (register m (m .index)) (bitAnd v (maskOf (m .index))))))
-    (written 0 (stored m (slotOf (m .index)) (bitAnd v (maskOf (m .index))))))
+abbrev pub dataWrite : Monitor → ℕ → Result Monitor
+dataWrite m v = writeAs (kindOf (m .index)) m (m .index) v
 
-unfoldable pub monitorDataWritten : Monitor → ℕ → Written
-monitorDataWritten m v =
-    cond (eqb (kindOf (m .index)) absent) (written 4 m)
-    (cond (eqb (kindOf (m .index)) readOnly) (written 2 m)
-    (cond (eqb (kindOf (m .index)) clear)
-    (written 0 (stored m (slotOf (m .index)) (cleared 0xFF (register m (m .index)) v)))
-    (cond (eqb (kindOf (m .index)) free) (written 0 (stored m (slotOf (m .index)) (bitAnd v (maskOf (m .index)))))
-    (heldWritten m v))))
+abbrev pub dataAccess : Monitor → Access → Result Monitor
+dataAccess m x = cond (x .write) (dataWrite m (x .value % 256)) (dataRead m)
 
--- "5 sensor (0 to 3, set in 83h)"
+-- ---- an access. "Blocks 1, 3 and 4 take width 1 only, else status 1."
+abbrev pub takes : ℕ → Bool
+takes width = eqb width 1
+
+-- offset 0 is the index, any other the data register
+unfoldable pub monitorAccess : Monitor → ℕ → Access → Result Monitor
+monitorAccess m offset x =
+    cond (takes (x .width)) (cond (eqb offset 0) (indexAccess m x) (dataAccess m x)) (status 1 m)
+
+-- ---- "5 sensor (0 to 3, set in 83h)"
 abbrev pub sensed : Monitor → ℕ → Monitor
-sensed m bits = stored m 6 (bitOr (getD (m .registers) 6 0) bits)
+sensed m bits = stored m 0x83 (bitOr (register m 0x83) bits)
+
+abbrev pub monitorEvent : Monitor → ℕ → ℕ → Monitor
+monitorEvent m kind operand = cond (eqb kind 5) (sensed m (operand % 4)) m
 
 -- "The monitor interrupt is on exactly if INTEN, VOLT and either both VTR bits or both VBAT bits are set."
-unfoldable pub interrupt : Monitor → Bool
+abbrev pub interrupt : Monitor → Bool
 interrupt m =
-    hasBit 0x04 (getD (m .registers) 1 0)
-    && (hasBit 0x01 (getD (m .registers) 2 0)
-    && ((hasBit 0x10 (getD (m .registers) 2 0) && hasBit 0x01 (getD (m .registers) 6 0))
-    || (hasBit 0x02 (getD (m .registers) 2 0) && hasBit 0x02 (getD (m .registers) 6 0))))
+    hasBit 0x04 (register m 0x7C)
+    && hasBit 0x01 (register m 0x7E)
+    && ((hasBit 0x10 (register m 0x7E) && hasBit 0x01 (register m 0x83))
+    || (hasBit 0x02 (register m 0x7E) && hasBit 0x02 (register m 0x83)))

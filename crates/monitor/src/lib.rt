@@ -1,21 +1,32 @@
-// Part of the hardware monitor: document 01, "Monitor registers". An index register and a data register; which ports
-// they are, the device knows.
+// Part of the hardware monitor: document 01, "Monitor registers". An index register and a data register, whose ports the
+// device knows. `tables` has the register table, `bytes` the saved form.
+mod bytes;
+mod tables;
+
+use access::Access;
 use access::Answer;
 ghost use mathlib.Core.Path.{_≡_};
-ghost use mathlib.Core.Bool.{_&&_};
-ghost use Rattle.mask.specs.Mask.{hasBit, within};
+ghost use Prim.Native.Nat.{_<_};
+ghost use Rattle.access.specs.Block.{result};
+ghost use Rattle.access.specs.Status.{done, statusOnly};
 ghost use Rattle.monitor.specs.Monitor.{
   freshMonitor,
+  monitorReset,
   monitorInRange,
-  monitor,
-  monitorDataRead,
-  monitorDataWritten,
-  written,
-  interrupt,
-  sensed,
+  monitorAccess,
+  indexAccess,
+  dataAccess,
+  dataRead,
+  dataWrite,
+  lockableWrite,
   lockSet,
+  register,
+  stored,
+  takes,
+  monitorEvent,
+  interrupt,
 };
-ghost use Rattle.monitor.specs.Table.{kindOf, maskOf, resetOf, slotOf};
+ghost use Rattle.monitor.specs.Table.{slotOf};
 
 // What can change is stored: the registers at 40h, 7Ch, 7Eh, 80h to 83h, 90h, 91h and B5h to B7h, in this order.
 pub struct Monitor {
@@ -23,19 +34,47 @@ pub struct Monitor {
     pub registers: [u8; 12],
 }
 
+pub struct AccessResult {
+    pub answer: Answer,
+    pub block: Monitor,
+}
+
+impl AccessResult {
+    fn status(status: u32, block: Monitor) -> Self
+        ensures { λ r. ⌜ result (r .answer) (r .block) ≡ result (statusOnly status) block ⌝ }
+    {
+        AccessResult {
+            answer: Answer { status, value: 0 },
+            block,
+        }
+    }
+
+    fn read(value: u8, block: Monitor) -> Self
+        ensures { λ r. ⌜ result (r .answer) (r .block) ≡ result (done value) block ⌝ }
+    {
+        AccessResult {
+            answer: Answer {
+                status: Answer::DONE,
+                value: value as u32,
+            },
+            block,
+        }
+    }
+}
+
 impl Monitor {
-    // Kinds of register. A held one is read/write and locked by Lock, a free one read/write and not locked.
+    // Kinds of register. A lockable one is read/write and locked by Lock, an unlocked one read/write and not locked.
     pub const ABSENT: u8 = 0;
 
     pub const READ_ONLY: u8 = 1;
 
     pub const LOCK: u8 = 2;
 
-    pub const HELD: u8 = 3;
+    pub const LOCKABLE: u8 = 3;
 
-    pub const FREE: u8 = 4;
+    pub const UNLOCKED: u8 = 4;
 
-    pub const CLEARED: u8 = 5;
+    pub const WRITE_1_CLEARS: u8 = 5;
 
     // Lock, in 40h; INTEN, in 7Ch; VTR, VBAT and VOLT, enabled in 7Eh; VBAT and VTR, seen in 83h.
     pub const LOCK_BIT: u8 = 0x02;
@@ -52,803 +91,156 @@ impl Monitor {
 
     pub const VTR_STATUS: u8 = 0x01;
 
-    pub const KIND: [u8; 256] = [
-        0,
-        0,
-        0,
-        0,
-        0,
-        0,
-        0,
-        0,
-        0,
-        0,
-        0,
-        0,
-        0,
-        0,
-        0,
-        0,
-        0,
-        0,
-        0,
-        0,
-        0,
-        0,
-        0,
-        0,
-        0,
-        0,
-        0,
-        0,
-        0,
-        0,
-        0,
-        0,
-        0,
-        0,
-        0,
-        0,
-        0,
-        0,
-        0,
-        0,
-        0,
-        0,
-        0,
-        0,
-        0,
-        0,
-        0,
-        0,
-        0,
-        0,
-        0,
-        0,
-        0,
-        0,
-        0,
-        0,
-        0,
-        0,
-        0,
-        0,
-        0,
-        0,
-        0,
-        0,
-        2,
-        0,
-        0,
-        0,
-        0,
-        0,
-        0,
-        0,
-        0,
-        0,
-        0,
-        0,
-        0,
-        0,
-        0,
-        0,
-        0,
-        0,
-        0,
-        0,
-        0,
-        0,
-        0,
-        0,
-        0,
-        0,
-        0,
-        0,
-        0,
-        0,
-        0,
-        0,
-        0,
-        0,
-        0,
-        0,
-        0,
-        0,
-        0,
-        0,
-        0,
-        0,
-        0,
-        0,
-        0,
-        0,
-        1,
-        1,
-        0,
-        0,
-        0,
-        0,
-        0,
-        0,
-        0,
-        0,
-        0,
-        0,
-        0,
-        0,
-        3,
-        0,
-        3,
-        0,
-        3,
-        3,
-        3,
-        5,
-        1,
-        1,
-        1,
-        1,
-        1,
-        0,
-        0,
-        0,
-        0,
-        0,
-        0,
-        0,
-        4,
-        4,
-        0,
-        0,
-        0,
-        0,
-        0,
-        0,
-        0,
-        0,
-        0,
-        0,
-        0,
-        0,
-        0,
-        0,
-        0,
-        0,
-        0,
-        0,
-        0,
-        0,
-        0,
-        0,
-        0,
-        0,
-        0,
-        0,
-        0,
-        0,
-        0,
-        0,
-        0,
-        0,
-        0,
-        0,
-        0,
-        3,
-        3,
-        3,
-        0,
-        0,
-        0,
-        0,
-        0,
-        0,
-        0,
-        0,
-        0,
-        0,
-        0,
-        0,
-        0,
-        0,
-        0,
-        0,
-        0,
-        0,
-        0,
-        0,
-        0,
-        0,
-        0,
-        0,
-        0,
-        0,
-        0,
-        0,
-        0,
-        0,
-        0,
-        0,
-        0,
-        0,
-        0,
-        0,
-        0,
-        0,
-        0,
-        0,
-        0,
-        0,
-        0,
-        0,
-        0,
-        0,
-        0,
-        0,
-        0,
-        0,
-        0,
-        0,
-        0,
-        0,
-        0,
-        0,
-        0,
-        0,
-        0,
-        0,
-        0,
-        0,
-        0,
-        0,
-        0,
-        0,
-        0,
-        0,
-        0,
-        0,
-        0,
-        0,
-    ];
+    // The slots of 40h, 7Ch, 7Eh and 83h.
+    const SLOT_40: usize = 0;
 
-    pub const RESET: [u8; 256] = [
-        0x00,
-        0x00,
-        0x00,
-        0x00,
-        0x00,
-        0x00,
-        0x00,
-        0x00,
-        0x00,
-        0x00,
-        0x00,
-        0x00,
-        0x00,
-        0x00,
-        0x00,
-        0x00,
-        0x00,
-        0x00,
-        0x00,
-        0x00,
-        0x00,
-        0x00,
-        0x00,
-        0x00,
-        0x00,
-        0x00,
-        0x00,
-        0x00,
-        0x00,
-        0x00,
-        0x00,
-        0x00,
-        0x00,
-        0x00,
-        0x00,
-        0x00,
-        0x00,
-        0x00,
-        0x00,
-        0x00,
-        0x00,
-        0x00,
-        0x00,
-        0x00,
-        0x00,
-        0x00,
-        0x00,
-        0x00,
-        0x00,
-        0x00,
-        0x00,
-        0x00,
-        0x00,
-        0x00,
-        0x00,
-        0x00,
-        0x00,
-        0x00,
-        0x00,
-        0x00,
-        0x00,
-        0x00,
-        0x00,
-        0x00,
-        0x00,
-        0x00,
-        0x00,
-        0x00,
-        0x00,
-        0x00,
-        0x00,
-        0x00,
-        0x00,
-        0x00,
-        0x00,
-        0x00,
-        0x00,
-        0x00,
-        0x00,
-        0x00,
-        0x00,
-        0x00,
-        0x00,
-        0x00,
-        0x00,
-        0x00,
-        0x00,
-        0x00,
-        0x00,
-        0x00,
-        0x00,
-        0x00,
-        0x00,
-        0x00,
-        0x00,
-        0x00,
-        0x00,
-        0x00,
-        0x00,
-        0x00,
-        0x00,
-        0x00,
-        0x00,
-        0x00,
-        0x00,
-        0x00,
-        0x00,
-        0x00,
-        0x00,
-        0x00,
-        0x44,
-        0x40,
-        0x00,
-        0x00,
-        0x00,
-        0x00,
-        0x00,
-        0x00,
-        0x00,
-        0x00,
-        0x00,
-        0x00,
-        0x00,
-        0x00,
-        0x40,
-        0x00,
-        0xEC,
-        0x00,
-        0x0E,
-        0x24,
-        0x0E,
-        0x00,
-        0x00,
-        0x00,
-        0x00,
-        0x00,
-        0x00,
-        0x00,
-        0x00,
-        0x00,
-        0x00,
-        0x00,
-        0x00,
-        0x00,
-        0x04,
-        0x04,
-        0x00,
-        0x00,
-        0x00,
-        0x00,
-        0x00,
-        0x00,
-        0x00,
-        0x00,
-        0x00,
-        0x00,
-        0x00,
-        0x00,
-        0x00,
-        0x00,
-        0x00,
-        0x00,
-        0x00,
-        0x00,
-        0x00,
-        0x00,
-        0x00,
-        0x00,
-        0x00,
-        0x00,
-        0x00,
-        0x00,
-        0x00,
-        0x00,
-        0x00,
-        0x00,
-        0x00,
-        0x00,
-        0x00,
-        0x00,
-        0x00,
-        0x00,
-        0x00,
-        0x00,
-        0x00,
-        0x00,
-        0x00,
-        0x00,
-        0x00,
-        0x00,
-        0x00,
-        0x00,
-        0x00,
-        0x00,
-        0x00,
-        0x00,
-        0x00,
-        0x00,
-        0x00,
-        0x00,
-        0x00,
-        0x00,
-        0x00,
-        0x00,
-        0x00,
-        0x00,
-        0x00,
-        0x00,
-        0x00,
-        0x00,
-        0x00,
-        0x00,
-        0x00,
-        0x00,
-        0x00,
-        0x00,
-        0x00,
-        0x00,
-        0x00,
-        0x00,
-        0x00,
-        0x00,
-        0x00,
-        0x00,
-        0x00,
-        0x00,
-        0x00,
-        0x00,
-        0x00,
-        0x00,
-        0x00,
-        0x00,
-        0x00,
-        0x00,
-        0x00,
-        0x00,
-        0x00,
-        0x00,
-        0x00,
-        0x00,
-        0x00,
-        0x00,
-        0x00,
-        0x00,
-        0x00,
-        0x00,
-        0x00,
-        0x00,
-        0x00,
-        0x00,
-        0x00,
-        0x00,
-        0x00,
-        0x00,
-        0x00,
-        0x00,
-    ];
+    const SLOT_7C: usize = 1;
 
-    pub const MASK: [u8; 256] = [
-        0x00,
-        0x00,
-        0x00,
-        0x00,
-        0x00,
-        0x00,
-        0x00,
-        0x00,
-        0x00,
-        0x00,
-        0x00,
-        0x00,
-        0x00,
-        0x00,
-        0x00,
-        0x00,
-        0x00,
-        0x00,
-        0x00,
-        0x00,
-        0x00,
-        0x00,
-        0x00,
-        0x00,
-        0x00,
-        0x00,
-        0x00,
-        0x00,
-        0x00,
-        0x00,
-        0x00,
-        0x00,
-        0x00,
-        0x00,
-        0x00,
-        0x00,
-        0x00,
-        0x00,
-        0x00,
-        0x00,
-        0x00,
-        0x00,
-        0x00,
-        0x00,
-        0x00,
-        0x00,
-        0x00,
-        0x00,
-        0x00,
-        0x00,
-        0x00,
-        0x00,
-        0x00,
-        0x00,
-        0x00,
-        0x00,
-        0x00,
-        0x00,
-        0x00,
-        0x00,
-        0x00,
-        0x00,
-        0x00,
-        0x00,
-        0x02,
-        0x00,
-        0x00,
-        0x00,
-        0x00,
-        0x00,
-        0x00,
-        0x00,
-        0x00,
-        0x00,
-        0x00,
-        0x00,
-        0x00,
-        0x00,
-        0x00,
-        0x00,
-        0x00,
-        0x00,
-        0x00,
-        0x00,
-        0x00,
-        0x00,
-        0x00,
-        0x00,
-        0x00,
-        0x00,
-        0x00,
-        0x00,
-        0x00,
-        0x00,
-        0x00,
-        0x00,
-        0x00,
-        0x00,
-        0x00,
-        0x00,
-        0x00,
-        0x00,
-        0x00,
-        0x00,
-        0x00,
-        0x00,
-        0x00,
-        0x00,
-        0x00,
-        0x00,
-        0xFF,
-        0xFF,
-        0x00,
-        0x00,
-        0x00,
-        0x00,
-        0x00,
-        0x00,
-        0x00,
-        0x00,
-        0x00,
-        0x00,
-        0x00,
-        0x00,
-        0xE6,
-        0x00,
-        0xFF,
-        0x00,
-        0x0F,
-        0x3F,
-        0x0F,
-        0x03,
-        0xFF,
-        0xFF,
-        0xFF,
-        0xFF,
-        0xFF,
-        0x00,
-        0x00,
-        0x00,
-        0x00,
-        0x00,
-        0x00,
-        0x00,
-        0x1F,
-        0x1F,
-        0x00,
-        0x00,
-        0x00,
-        0x00,
-        0x00,
-        0x00,
-        0x00,
-        0x00,
-        0x00,
-        0x00,
-        0x00,
-        0x00,
-        0x00,
-        0x00,
-        0x00,
-        0x00,
-        0x00,
-        0x00,
-        0x00,
-        0x00,
-        0x00,
-        0x00,
-        0x00,
-        0x00,
-        0x00,
-        0x00,
-        0x00,
-        0x00,
-        0x00,
-        0x00,
-        0x00,
-        0x00,
-        0x00,
-        0x00,
-        0x00,
-        0x33,
-        0xF0,
-        0x0F,
-        0x00,
-        0x00,
-        0x00,
-        0x00,
-        0x00,
-        0x00,
-        0x00,
-        0x00,
-        0x00,
-        0x00,
-        0x00,
-        0x00,
-        0x00,
-        0x00,
-        0x00,
-        0x00,
-        0x00,
-        0x00,
-        0x00,
-        0x00,
-        0x00,
-        0x00,
-        0x00,
-        0x00,
-        0x00,
-        0x00,
-        0x00,
-        0x00,
-        0x00,
-        0x00,
-        0x00,
-        0x00,
-        0x00,
-        0x00,
-        0x00,
-        0x00,
-        0x00,
-        0x00,
-        0x00,
-        0x00,
-        0x00,
-        0x00,
-        0x00,
-        0x00,
-        0x00,
-        0x00,
-        0x00,
-        0x00,
-        0x00,
-        0x00,
-        0x00,
-        0x00,
-        0x00,
-        0x00,
-        0x00,
-        0x00,
-        0x00,
-        0x00,
-        0x00,
-        0x00,
-        0x00,
-        0x00,
-        0x00,
-        0x00,
-        0x00,
-        0x00,
-        0x00,
-        0x00,
-        0x00,
-        0x00,
-        0x00,
-        0x00,
-    ];
+    const SLOT_7E: usize = 2;
 
-    fn kind(index: u8) -> u8
-        ensures { λ r. ⌜ r ≡ kindOf index ⌝ }
+    const SLOT_83: usize = 6;
+
+    // The kind of event that a sensor makes.
+    pub const SENSOR: u32 = 5;
+
+    // The index's offset; the data register is at the next.
+    pub const INDEX_PORT: u32 = 0;
+
+    pub fn fresh() -> Self
+        ensures { λ r. ⌜ r ≡ freshMonitor ⌝ }
     {
-        Monitor::KIND[index as usize]
+        Monitor {
+            index: 0,
+            registers: [
+                Monitor::RESET[0x40],
+                Monitor::RESET[0x7C],
+                Monitor::RESET[0x7E],
+                Monitor::RESET[0x80],
+                Monitor::RESET[0x81],
+                Monitor::RESET[0x82],
+                Monitor::RESET[0x83],
+                Monitor::RESET[0x90],
+                Monitor::RESET[0x91],
+                Monitor::RESET[0xB5],
+                Monitor::RESET[0xB6],
+                Monitor::RESET[0xB7],
+            ],
+        }
     }
 
-    fn reset(index: u8) -> u8
-        ensures { λ r. ⌜ r ≡ resetOf index ⌝ }
+    // A PCI reset keeps the monitor.
+    pub fn reset(self, level: u32) -> Self
+        ensures { λ r. ⌜ r ≡ monitorReset self level ⌝ }
     {
-        Monitor::RESET[index as usize]
+        match level {
+            0 => self,
+            _ => Monitor::fresh(),
+        }
     }
 
-    fn mask(index: u8) -> u8
-        ensures { λ r. ⌜ r ≡ maskOf index ⌝ }
+    // Every register within its mask. Each index is a constant, so that no table is laid out for it.
+    pub fn in_range(self) -> bool
+        ensures { λ r. ⌜ r ≡ monitorInRange self ⌝ }
     {
-        Monitor::MASK[index as usize]
+        let registers = self.registers;
+        (registers[0] & Monitor::MASK[0x40] == registers[0])
+            & (registers[1] & Monitor::MASK[0x7C] == registers[1])
+            & (registers[2] & Monitor::MASK[0x7E] == registers[2])
+            & (registers[3] & Monitor::MASK[0x80] == registers[3])
+            & (registers[4] & Monitor::MASK[0x81] == registers[4])
+            & (registers[5] & Monitor::MASK[0x82] == registers[5])
+            & (registers[6] & Monitor::MASK[0x83] == registers[6])
+            & (registers[7] & Monitor::MASK[0x90] == registers[7])
+            & (registers[8] & Monitor::MASK[0x91] == registers[8])
+            & (registers[9] & Monitor::MASK[0xB5] == registers[9])
+            & (registers[10] & Monitor::MASK[0xB6] == registers[10])
+            & (registers[11] & Monitor::MASK[0xB7] == registers[11])
     }
 
-    // Where the register at an index is stored.
-    fn slot(index: u8) -> usize
+    pub fn access(self, offset: u32, access: Access) -> AccessResult
+        ensures { λ r. ⌜ result (r .answer) (r .block) ≡ monitorAccess self offset access ⌝ }
+    {
+        if !takes(access.width) {
+            return AccessResult::status(Answer::UNCLAIMED, self);
+        }
+        match offset {
+            Monitor::INDEX_PORT => self.index_access(access),
+            _ => self.data_access(access),
+        }
+    }
+
+    fn index_access(mut self, access: Access) -> AccessResult
+        ensures { λ r. ⌜ result (r .answer) (r .block) ≡ indexAccess self access ⌝ }
+    {
+        if access.write {
+            self.index = (access.value % 256) as u8;
+            return AccessResult::status(Answer::DONE, self);
+        }
+        AccessResult::read(self.index, self)
+    }
+
+    fn data_access(self, access: Access) -> AccessResult
+        ensures { λ r. ⌜ result (r .answer) (r .block) ≡ dataAccess self access ⌝ }
+    {
+        if access.write {
+            return self.data_write((access.value % 256) as u8);
+        }
+        self.data_read()
+    }
+
+    fn data_read(self) -> AccessResult
+        ensures { λ r. ⌜ result (r .answer) (r .block) ≡ dataRead self ⌝ }
+    {
+        let index = self.index;
+        match Monitor::kind_of(index) {
+            Monitor::ABSENT => AccessResult::status(Answer::ABSENT, self),
+            Monitor::READ_ONLY => AccessResult::read(Monitor::reset_of(index), self),
+            _ => AccessResult::read(self.register(index), self),
+        }
+    }
+
+    fn data_write(self, value: u8) -> AccessResult
+        ensures { λ r. ⌜ result (r .answer) (r .block) ≡ dataWrite self value ⌝ }
+    {
+        let index = self.index;
+        match Monitor::kind_of(index) {
+            Monitor::LOCK => self.lockable_write(
+                index,
+                self.register(index) | value & Monitor::mask_of(index),
+            ),
+            Monitor::READ_ONLY => AccessResult::status(Answer::BLOCKED, self),
+            Monitor::LOCKABLE => self.lockable_write(index, value & Monitor::mask_of(index)),
+            Monitor::WRITE_1_CLEARS => AccessResult::status(
+                Answer::DONE,
+                self.stored(index, mask::cleared8(self.register(index), value)),
+            ),
+            Monitor::UNLOCKED => AccessResult::status(
+                Answer::DONE,
+                self.stored(index, value & Monitor::mask_of(index)),
+            ),
+            _ => AccessResult::status(Answer::ABSENT, self),
+        }
+    }
+
+    // Lock is bit 1 of 40h, whatever the index.
+    fn lock_set(self) -> bool
+        ensures { λ r. ⌜ r ≡ lockSet self ⌝ }
+    {
+        self.registers[Monitor::SLOT_40] & Monitor::LOCK_BIT != 0
+    }
+
+    fn lockable_write(self, index: u8, value: u8) -> AccessResult
+        requires { ⌜ slotOf index < 12 ⌝ }
+        ensures { λ r. ⌜ result (r .answer) (r .block) ≡ lockableWrite self index value ⌝ }
+    {
+        if self.lock_set() {
+            return AccessResult::status(Answer::BLOCKED, self);
+        }
+        AccessResult::status(Answer::DONE, self.stored(index, value))
+    }
+
+    // Where the register at an index is stored; 12 for one that is not.
+    fn slot_of(index: u8) -> usize
         ensures { λ r. ⌜ r ≡ slotOf index ⌝ }
     {
         match index {
@@ -864,145 +256,55 @@ impl Monitor {
             0xB5 => 9,
             0xB6 => 10,
             0xB7 => 11,
-            _ => 0,
+            _ => 12,
         }
     }
 
-    pub fn fresh() -> Self
-        ensures { λ r. ⌜ r ≡ freshMonitor ⌝ }
+    fn register(self, index: u8) -> u8
+        requires { ⌜ slotOf index < 12 ⌝ }
+        ensures { λ r. ⌜ r ≡ register self index ⌝ }
     {
-        Monitor {
-            index: 0,
-            registers: [
-                Monitor::reset(0x40),
-                Monitor::reset(0x7C),
-                Monitor::reset(0x7E),
-                Monitor::reset(0x80),
-                Monitor::reset(0x81),
-                Monitor::reset(0x82),
-                Monitor::reset(0x83),
-                Monitor::reset(0x90),
-                Monitor::reset(0x91),
-                Monitor::reset(0xB5),
-                Monitor::reset(0xB6),
-                Monitor::reset(0xB7),
-            ],
-        }
+        let slot = Monitor::slot_of(index);
+        self.registers[slot]
     }
 
-    // Does the register at an index hold only bits of its mask?
-    fn is_within(index: u8, register: u8) -> bool
-        ensures { λ r. ⌜ r ≡ within (maskOf index) register ⌝ }
+    fn stored(mut self, index: u8, value: u8) -> Self
+        requires { ⌜ slotOf index < 12 ⌝ }
+        ensures { λ r. ⌜ r ≡ stored self index value ⌝ }
     {
-        mask::within8(Monitor::mask(index), register)
-    }
-
-    // Every register within its mask. Each index is a constant, so that no table is laid out for it.
-    pub fn in_range(self) -> bool
-        ensures { λ r. ⌜ r ≡ monitorInRange self ⌝ }
-    {
-        let registers = self.registers;
-        Monitor::is_within(0x40, registers[0])
-            & Monitor::is_within(0x7C, registers[1])
-            & Monitor::is_within(0x7E, registers[2])
-            & Monitor::is_within(0x80, registers[3])
-            & Monitor::is_within(0x81, registers[4])
-            & Monitor::is_within(0x82, registers[5])
-            & Monitor::is_within(0x83, registers[6])
-            & Monitor::is_within(0x90, registers[7])
-            & Monitor::is_within(0x91, registers[8])
-            & Monitor::is_within(0xB5, registers[9])
-            & Monitor::is_within(0xB6, registers[10])
-            & Monitor::is_within(0xB7, registers[11])
-    }
-
-    // Lock is bit 1 of 40h, whatever the index.
-    fn lock_set(registers: &[u8; 12]) -> bool
-        ensures { λ r. ⌜ r ≡ lockSet (monitor 0 (now (registers .entry))) ⌝ }
-    {
-        mask::has(registers[0], Monitor::LOCK_BIT)
-    }
-
-    // The registers are read, and changed, where they stand.
-    pub fn read_data(index: u8, registers: &[u8; 12]) -> Answer
-        ensures { λ r. ⌜ r ≡ monitorDataRead (monitor index (now (registers .entry))) ⌝ }
-    {
-        let kind = Monitor::kind(index);
-        if kind == Monitor::ABSENT {
-            return Answer::bare(Answer::ABSENT);
-        }
-        if kind == Monitor::READ_ONLY {
-            return Answer::done(mask::wide8(Monitor::reset(index)));
-        }
-        let slot = Monitor::slot(index);
-        Answer::done(mask::wide8(registers[slot]))
-    }
-
-    // The status of a write.
-    pub fn write_data(index: u8, registers: &mut [u8; 12], value: u8) -> u32
-        ensures { λ r. ⌜ written r (monitor index (now (registers .exit))) ≡ monitorDataWritten (monitor index (now (registers .entry))) value ⌝ }
-    {
-        let kind = Monitor::kind(index);
-        if kind == Monitor::ABSENT {
-            return Answer::ABSENT;
-        }
-        if kind == Monitor::READ_ONLY {
-            return Answer::BLOCKED;
-        }
-        let slot = Monitor::slot(index);
-        let old = registers[slot];
-        if kind == Monitor::CLEARED {
-            registers[slot] = mask::cleared8(old, value);
-            return Answer::DONE;
-        }
-        let kept = value & Monitor::mask(index);
-        if kind == Monitor::FREE {
-            registers[slot] = kept;
-            return Answer::DONE;
-        }
-        if Monitor::lock_set(registers) {
-            return Answer::BLOCKED;
-        }
-        if kind == Monitor::LOCK {
-            registers[slot] = old | kept;
-            return Answer::DONE;
-        }
-        registers[slot] = kept;
-        Answer::DONE
-    }
-
-    // A sensor sets its bits in 83h and clears none.
-    pub fn sense(mut self, bits: u8) -> Self
-        ensures { λ r. ⌜ r ≡ sensed self bits ⌝ }
-    {
-        self.registers[6] = self.registers[6] | bits;
+        let slot = Monitor::slot_of(index);
+        self.registers[slot] = value;
         self
     }
 
-    // INTEN, VOLT, and the VTR bits or the VBAT bits of the enable register 7Eh and the status register 83h.
+    // A sensor sets its bits in 83h and clears none; no other event concerns the monitor.
+    pub fn event(mut self, kind: u32, operand: u32) -> Self
+        ensures { λ r. ⌜ r ≡ monitorEvent self kind operand ⌝ }
+    {
+        if kind == Monitor::SENSOR {
+            let bits = (operand % 4) as u8;
+            self.registers[Monitor::SLOT_83] = self.registers[Monitor::SLOT_83] | bits;
+        }
+        self
+    }
+
+    // INTEN, VOLT, and both VTR bits or both VBAT bits of 7Eh and 83h.
     pub fn interrupt(self) -> bool
         ensures { λ r. ⌜ r ≡ interrupt self ⌝ }
     {
-        if mask::has(self.registers[1], Monitor::INTEN) {
-            let enable = self.registers[2];
-            let status = self.registers[6];
-            if mask::has(enable, Monitor::VOLT_ENABLE) {
-                if both(enable, Monitor::VTR_ENABLE, status, Monitor::VTR_STATUS) {
-                    return true;
-                }
-                return both(enable, Monitor::VBAT_ENABLE, status, Monitor::VBAT_STATUS);
-            }
-        }
-        false
+        let control = self.registers[Monitor::SLOT_7C];
+        let enable = self.registers[Monitor::SLOT_7E];
+        let status = self.registers[Monitor::SLOT_83];
+        (control & Monitor::INTEN != 0)
+            & (enable & Monitor::VOLT_ENABLE != 0)
+            & ((enable & Monitor::VTR_ENABLE != 0) & (status & Monitor::VTR_STATUS != 0)
+                | (enable & Monitor::VBAT_ENABLE != 0) & (status & Monitor::VBAT_STATUS != 0))
     }
 }
 
-// An enable bit and its status bit.
-fn both(enable: u8, enable_bit: u8, status: u8, status_bit: u8) -> bool
-    ensures { λ r. ⌜ r ≡ (hasBit «enable_bit» enable && hasBit «status_bit» status) ⌝ }
+// The monitor's ports take one byte.
+fn takes(width: u32) -> bool
+    ensures { λ r. ⌜ r ≡ takes width ⌝ }
 {
-    if mask::has(enable, enable_bit) {
-        return mask::has(status, status_bit);
-    }
-    false
+    width == 1
 }

@@ -1,17 +1,14 @@
--- `monitor::Monitor::reset` meets its contract: the constant table has what document 01's table says at each of 256 indices.
--- Assumes nothing.
-use native.Mathlib.Omega.{arith}
+-- `monitor::Monitor::reset` meets its contract. Assumes nothing.
+use borrow.Author.Needs.{needs}
+use borrow.Author.Tests.{ne-eqb}
 use Rattle.monitor.proofs.Monitor.reset.Statement.{statement}
 use Rattle.monitor.proofs.Monitor.reset.Tie as tie
-use Rattle.monitor.proofs.Tables.{entry}
-use Rattle.monitor.specs.Table.{resetOf}
-
-array-read-result : tie.Need-array-read-result
-array-read-result c = omega arith
 
 returns : tie.Need-returns
-unfolding resetOf
-returns c = entry resetOf (c .args .index) (omega arith)
+returns c = rw (c .match .keys1)
+
+returns-2 : tie.Need-returns-2
+returns-2 c = rw (ne-eqb _ _ (c .before .match .rest .1)) (c .fresh .ensures)
 
 pub reset-spec : {M : Type 1} → statement M
-reset-spec = tie.close (tie.spec array-read-result returns)
+reset-spec = tie.close (tie.spec (λ c κs. search needs) returns returns-2)

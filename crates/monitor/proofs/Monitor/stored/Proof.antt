@@ -1,0 +1,10 @@
+-- `monitor::Monitor::stored` meets its contract. Assumes nothing.
+use borrow.Author.Needs.{needs}
+use Rattle.monitor.proofs.Monitor.stored.Statement.{statement}
+use Rattle.monitor.proofs.Monitor.stored.Tie as tie
+
+returns : tie.Need-returns
+returns c = rw (c .slot-of .ensures)
+
+pub stored-spec : {M : Type 1} → statement M
+stored-spec = tie.close (tie.spec (λ c κs. search needs) (λ c. search needs) returns)
