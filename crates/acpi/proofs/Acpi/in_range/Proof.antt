@@ -1,9 +1,21 @@
 -- `acpi::Acpi::in_range` meets its contract: its tests are the definition's, in the same order. Assumes nothing.
-use mathlib.Core.Bool.{and-assoc, and-true}
+use mathlib.Core.Path.{_≡_}
+use mathlib.Core.Bool.{Bool, _&&_, and-assoc, and-true}
+use mathlib.Core.List.{[], _∷_}
+use Rattle.lists.specs.Tests.{allHold}
 use borrow.Author.Needs.{needs}
-use Rattle.acpi.specs.Acpi.{acpiInRange}
+use Rattle.acpi.specs.Acpi.{acpiInRange, isCpuState, mapInRange}
+use Rattle.acpi.specs.Setup.{isSetupIndex}
+use Rattle.mask.specs.Every.{allBelow}
+use Rattle.mask.specs.Mask.{within}
+use lib.Dec.{leb, ltb}
+use Prim.Native.Nat.{_^_}
 use Rattle.acpi.proofs.Acpi.in_range.Statement.{statement}
 use Rattle.acpi.proofs.Acpi.in_range.Tie as tie
+
+chain : (a b c d e f g h i : Bool)
+    → (a && b && c && d && e && f && g && h && i) ≡ allHold (a ∷ b ∷ c ∷ d ∷ e ∷ f ∷ g ∷ h ∷ i ∷ [])
+chain a b c d e f g h i = simp (and-assoc, and-true)
 
 pub in-range-spec : {M : Type 1} → statement M
 unfolding acpiInRange
@@ -19,16 +31,19 @@ in-range-spec =
     (λ c κs. search needs)
     (λ c κs. search needs)
     (λ c κs. search needs)
-    (λ c. simp (
+    (λ c.
+    let a = c .before .before .before .before .before .before .before .before .before .before .before .args .self in
+    rw (
       c .before .before .before .before .before .before .before .before .before .within8 .ensures,
       c .before .before .before .before .before .before .before .before .is-cpu-state .ensures,
       c .before .before .before .before .before .before .before .within16 .ensures,
       c .before .before .before .before .before .before .within162 .ensures,
       c .before .before .before .before .before .within163 .ensures,
-      c .before .before .before .before .wide16 .ensures,
       c .before .before .before .is-setup-index .ensures,
+      c .before .before .before .before .wide16 .ensures,
       c .before .before .wide8 .ensures,
       c .maps-in-range .ensures,
-      and-assoc,
-      and-true,
-    )))
+    )
+    (chain (within 0x17 (a .pcnt)) (isCpuState (a .cpu)) (within 0x8F31 (a .pm1sts)) (within 0x0721 (a .pm1en))
+    (within 0x1C02 (a .pm1cnt)) (isSetupIndex (a .setupidx)) (leb (a .irq) 15) (ltb (a .timer) (2 ^ 24))
+    (allBelow 8 (mapInRange (a .maps))))))
