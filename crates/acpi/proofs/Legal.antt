@@ -1,16 +1,16 @@
 -- What the tests of the ACPI block say of the numbers that pass them. Assumes nothing.
-use Prim.Native.Nat.{ℕ, _+_, _*_, _%_, _^_, _≤_, _<_}
+use Prim.Native.Nat.{ℕ, suc, _+_, _*_, _%_, _^_, _≤_, _<_}
 use mathlib.Core.Path.{_≡_, refl, sym, _∙_}
-use mathlib.Core.Bool.{Bool, true, false, not, _&&_, _||_}
+use mathlib.Core.Bool.{Bool, true, false, not, _&&_, _||_, and-false}
 use mathlib.Core.Logic.{_⊎_, inl, inr, ⊎-elim}
 use native.Mathlib.Omega.{arith}
-use borrow.Author.Tests.{eqb-true, leb-true, ltb-true}
+use borrow.Author.Tests.{eqb-true, le-leb, leb-true, lt-leb}
 use lib.Bits.{bitAnd}
 use lib.Dec.{eqb, leb, ltb}
 use lib.Pow.{pow-lt}
 use native.Mathlib.Nat.{one-mul, mod-eq-of-lt}
-use Rattle.mask.proofs.Every.{and-left, and-right}
-use Rattle.acpi.specs.Block.{isMapIndex, isSetupIndex}
+use Rattle.mask.proofs.Every.{and-both, and-left, and-right}
+use Rattle.acpi.specs.Setup.{isMapIndex, isSetupIndex}
 use Rattle.acpi.specs.Map.{isGpeTarget, legalMap, legalTarget}
 use Rattle.acpi.specs.Settle.{pending, sciOn, smiOn}
 use Rattle.acpi.specs.declared.Acpi.{Acpi}
@@ -19,28 +19,31 @@ pub or-cases : (a b : Bool) → (a || b) ≡ true → (a ≡ true) ⊎ (b ≡ tr
 or-cases true b e = inl refl
 or-cases false b e = inr e
 
-pub map-index : (i : ℕ) → isMapIndex i ≡ true → (0x10 ≤ i) × (i ≤ 0x17)
-map-index i h =
-    (leb-true 0x10 i (and-left (leb 0x10 i) (leb i 0x17) h), leb-true i 0x17 (and-right (leb 0x10 i) (leb i 0x17) h))
+-- a range pattern, as the code tests it
+pub between : (lo hi x : ℕ) → lo ≤ x → x < suc hi → (leb lo x && leb x hi) ≡ true
+between lo hi x l h = and-both (leb lo x) (leb x hi) (le-leb lo x l) (le-leb x hi (omega arith))
 
-pub gpe-target : (low : ℕ) → isGpeTarget low ≡ true → (0x10 ≤ low) × (low < 0x20)
-gpe-target low h = (
-  leb-true 0x10 low (and-left (leb 0x10 low) (ltb low 0x20) h),
-  ltb-true low 0x20 (and-right (leb 0x10 low) (ltb low 0x20) h),
-)
+pub outside : (lo hi x : ℕ) → (x < lo) ⊎ (suc hi ≤ x) → (leb lo x && leb x hi) ≡ false
+outside lo hi x (inl l) = rw (lt-leb lo x l)
+outside lo hi x (inr h) = rw (lt-leb x hi (omega arith)) (and-false (leb lo x))
 
 pub setup-index : (i : ℕ) → isSetupIndex i ≡ true → i ≤ 0x41
 setup-index i h =
-    ⊎-elim (λ z. let e = eqb-true i 0 z in omega arith)
-    (λ r. ⊎-elim (λ m. let b = map-index i m in omega arith)
-    (λ s. ⊎-elim (λ x. let e = eqb-true i 0x40 x in omega arith) (λ y. let e = eqb-true i 0x41 y in omega arith)
-    (or-cases (eqb i 0x40) (eqb i 0x41) s))
-    (or-cases (isMapIndex i) (eqb i 0x40 || eqb i 0x41) r))
-    (or-cases (eqb i 0x00) (isMapIndex i || (eqb i 0x40 || eqb i 0x41)) h)
+    ⊎-elim
+    (λ r. ⊎-elim
+    (λ s. ⊎-elim (λ z. let e = eqb-true i 0x00 z in omega arith)
+    (λ m. let b = leb-true i 0x17 (and-right (leb 0x10 i) (leb i 0x17) m) in omega arith)
+    (or-cases (eqb i 0x00) (isMapIndex i) s))
+    (λ x. let e = eqb-true i 0x40 x in omega arith)
+    (or-cases (eqb i 0x00 || isMapIndex i) (eqb i 0x40) r))
+    (λ y. let e = eqb-true i 0x41 y in omega arith)
+    (or-cases (eqb i 0x00 || isMapIndex i || eqb i 0x40) (eqb i 0x41) h)
 
 pub legal-map : (v : ℕ) → legalMap v ≡ true → v ≤ 0x1FFF
 unfolding legalMap
-legal-map v h = leb-true v 0x1FFF (and-left (leb v 0x1FFF) (eqb (bitAnd v 0x0E00) 0 && legalTarget (v % 256)) h)
+legal-map v h =
+    let zeros = eqb (bitAnd v 0x0E00) 0 in
+    leb-true v 0x1FFF (and-left (leb v 0x1FFF) zeros (and-left (leb v 0x1FFF && zeros) (legalTarget (v % 256)) h))
 
 -- either of SCI and SMI is on exactly if something is pending
 pub either : (a : Acpi) → (sciOn a || smiOn a) ≡ pending a

@@ -2,6 +2,7 @@
 use Prim.Native.Nat.{ℕ}
 use mathlib.Core.Bool.{Bool}
 use mathlib.Core.List.{List}
+use lib.Bits.{bitOr}
 use Rattle.acpi.specs.declared.Acpi.{Acpi}
 
 abbrev pub withPcnt : Acpi → ℕ → Acpi
@@ -255,3 +256,7 @@ withLevels a ls = record {
   timer = a .timer;
   levels = ls;
 }
+
+-- bits of PM1a_STS set
+abbrev pub raise : Acpi → ℕ → Acpi
+raise a bits = withPm1sts a (bitOr (a .pm1sts) bits)

@@ -1,9 +1,9 @@
-pub mod Block
+pub mod Acpi
+pub mod Event
 pub mod Fields
-pub mod Happen
 pub mod Map
-pub mod Moved
 pub mod Registers
+pub mod Saved
 pub mod Settle
 pub mod Setup
 pub mod Times

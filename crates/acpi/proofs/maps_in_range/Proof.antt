@@ -7,7 +7,7 @@ use borrow.Author.Needs.{needs}
 use borrow.Author.Tests.{not-true, not-false}
 use Rattle.mask.proofs.Every.{all-false, all-more}
 use Rattle.mask.specs.Every.{allBelow}
-use Rattle.acpi.specs.Block.{mapInRange}
+use Rattle.acpi.specs.Acpi.{mapInRange}
 use Rattle.acpi.proofs.maps_in_range.Statement.{statement}
 use Rattle.acpi.proofs.maps_in_range.Tie as tie
 

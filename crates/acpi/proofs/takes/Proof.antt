@@ -1,88 +1,24 @@
--- `acpi::takes` meets its contract. Assumes nothing.
+-- `acpi::takes` meets its contract: each arm is the definition's at its offset. Assumes nothing.
 use borrow.Author.Tests.{ne-eqb}
 use Rattle.acpi.specs.Registers.{takes}
 use Rattle.acpi.proofs.takes.Statement.{statement}
 use Rattle.acpi.proofs.takes.Tie as tie
 
-returns : tie.Need-returns
-unfolding takes
-returns c = simp (c .match .keys1)
-
-returns-2 : tie.Need-returns-2
-unfolding takes
-returns-2 c = simp (c .match .keys2)
-
-returns-3 : tie.Need-returns-3
-unfolding takes
-returns-3 c = simp (c .match .keys3)
-
-returns-4 : tie.Need-returns-4
-unfolding takes
-returns-4 c = simp (c .match .keys4)
-
-returns-5 : tie.Need-returns-5
-unfolding takes
-returns-5 c = simp (c .match .keys5)
-
-returns-6 : tie.Need-returns-6
-unfolding takes
-returns-6 c = simp (c .match .keys6)
-
-returns-7 : tie.Need-returns-7
-unfolding takes
-returns-7 c = simp (c .match .keys7)
-
-returns-8 : tie.Need-returns-8
-unfolding takes
-returns-8 c = simp (c .match .keys8)
-
-returns-9 : tie.Need-returns-9
-unfolding takes
-returns-9 c = simp (c .match .keys9)
-
-returns-10 : tie.Need-returns-10
-unfolding takes
-returns-10 c = simp (c .match .keys10)
-
-returns-11 : tie.Need-returns-11
-unfolding takes
-returns-11 c = simp (c .match .keys11)
-
-returns-12 : tie.Need-returns-12
-unfolding takes
-returns-12 c = simp (c .match .keys12)
-
-returns-13 : tie.Need-returns-13
-unfolding takes
-returns-13 c = simp (
-  ne-eqb _ _ (c .match .rest .0 .0 .0 .0 .0 .0 .0 .0 .0 .0 .0 .1),
-  ne-eqb _ _ (c .match .rest .0 .0 .0 .0 .0 .0 .0 .0 .0 .0 .1),
-  ne-eqb _ _ (c .match .rest .0 .0 .0 .0 .0 .0 .0 .0 .0 .1),
-  ne-eqb _ _ (c .match .rest .0 .0 .0 .0 .0 .0 .0 .0 .1),
-  ne-eqb _ _ (c .match .rest .0 .0 .0 .0 .0 .0 .0 .1),
-  ne-eqb _ _ (c .match .rest .0 .0 .0 .0 .0 .0 .1),
-  ne-eqb _ _ (c .match .rest .0 .0 .0 .0 .0 .1),
-  ne-eqb _ _ (c .match .rest .0 .0 .0 .0 .1),
-  ne-eqb _ _ (c .match .rest .0 .0 .0 .1),
-  ne-eqb _ _ (c .match .rest .0 .0 .1),
-  ne-eqb _ _ (c .match .rest .0 .1),
-  ne-eqb _ _ (c .match .rest .1),
-)
-
 pub takes-spec : {M : Type 1} → statement M
+unfolding takes
 takes-spec =
     tie.close
     (tie.spec
-    returns
-    returns-2
-    returns-3
-    returns-4
-    returns-5
-    returns-6
-    returns-7
-    returns-8
-    returns-9
-    returns-10
-    returns-11
-    returns-12
-    returns-13)
+    (λ c. simp (c .match .keys1))
+    (λ c. simp (c .match .keys2))
+    (λ c. simp (c .match .keys3))
+    (λ c. simp (c .match .keys4))
+    (λ c. simp (c .match .keys5))
+    (λ c. simp (c .match .keys6))
+    (λ c. simp (c .match .keys7))
+    (λ c. simp (c .match .keys8))
+    (λ c. simp (c .match .keys9))
+    (λ c. simp (c .match .keys10))
+    (λ c. simp (c .match .keys11))
+    (λ c. simp (c .match .keys12))
+    (λ c. simp (ne-eqb _ _ (c .match .rest .0 .0 .0 .0 .0 .0 .0 .0 .0 .0 .0 .1), ne-eqb _ _ (c .match .rest .0 .0 .0 .0 .0 .0 .0 .0 .0 .0 .1), ne-eqb _ _ (c .match .rest .0 .0 .0 .0 .0 .0 .0 .0 .0 .1), ne-eqb _ _ (c .match .rest .0 .0 .0 .0 .0 .0 .0 .0 .1), ne-eqb _ _ (c .match .rest .0 .0 .0 .0 .0 .0 .0 .1), ne-eqb _ _ (c .match .rest .0 .0 .0 .0 .0 .0 .1), ne-eqb _ _ (c .match .rest .0 .0 .0 .0 .0 .1), ne-eqb _ _ (c .match .rest .0 .0 .0 .0 .1), ne-eqb _ _ (c .match .rest .0 .0 .0 .1), ne-eqb _ _ (c .match .rest .0 .0 .1), ne-eqb _ _ (c .match .rest .0 .1), ne-eqb _ _ (c .match .rest .1))))

@@ -1,18 +1,14 @@
--- `acpi::map::gpe_bit` meets its contract. Assumes nothing.
+-- `acpi::map::gpe_bit` meets its contract: a bit below 16 fits the register. Assumes nothing.
 use native.Mathlib.Omega.{arith}
-use Rattle.acpi.proofs.Legal.{one-bit}
 use borrow.Author.Needs.{needs}
+use Rattle.acpi.proofs.Legal.{one-bit}
 use Rattle.acpi.proofs.map.gpe_bit.Statement.{statement}
 use Rattle.acpi.proofs.map.gpe_bit.Tie as tie
 
-sub-result : tie.Need-sub-result
-sub-result c = search needs
-
-shl-result : tie.Need-shl-result
-shl-result c = search needs
-
-returns : tie.Need-returns
-returns c = one-bit _ (omega arith)
-
 pub gpe-bit-spec : {M : Type 1} → statement M
-gpe-bit-spec = tie.close (tie.spec sub-result shl-result returns)
+gpe-bit-spec =
+    tie.close
+    (tie.spec
+    (λ c. search needs)
+    (λ c. search needs)
+    (λ c. one-bit _ (omega arith)))

@@ -1,0 +1,22 @@
+-- `acpi::Acpi::map_write` meets its contract. Assumes nothing.
+use mathlib.Core.Path.{sym, _∙_}
+use native.Mathlib.Omega.{arith}
+use borrow.Author.Needs.{needs}
+use Rattle.acpi.proofs.Legal.{legal-map}
+use Rattle.acpi.specs.Setup.{mapWrite}
+use Rattle.acpi.proofs.Acpi.map_write.Statement.{statement}
+use Rattle.acpi.proofs.Acpi.map_write.Tie as tie
+
+pub map-write-spec : {M : Type 1} → statement M
+unfolding mapWrite
+map-write-spec =
+    tie.close
+    (tie.spec
+    (λ c κs. search needs)
+    (λ c. omega (arith, legal-map (c .before .before .args .value) (sym (c .before .is-legal .ensures) ∙ c .if1 .taken)))
+    (λ c. search needs)
+    (λ c. search needs)
+    (λ c κs. search needs)
+    (λ c. simp (← (c .before .before .is-legal .ensures), c .before .if1 .taken, c .write .ensures))
+    (λ c κs. search needs)
+    (λ c. simp (← (c .before .before .is-legal .ensures), c .before .if1 .left, c .write2 .ensures)))

@@ -1,0 +1,38 @@
+-- `acpi::Acpi::setup_write` meets its contract. Assumes nothing.
+use borrow.Author.Needs.{needs}
+use mathlib.Core.Logic.{inl, inr, ⊎-elim}
+use borrow.Author.Tests.{ne-eqb}
+use Rattle.acpi.proofs.Legal.{between, outside}
+use Rattle.acpi.specs.Setup.{setupWrite}
+use Rattle.acpi.proofs.Acpi.setup_write.Statement.{statement}
+use Rattle.acpi.proofs.Acpi.setup_write.Tie as tie
+
+pub setup-write-spec : {M : Type 1} → statement M
+unfolding setupWrite
+setup-write-spec =
+    tie.close
+    (tie.spec
+    (λ c κs. search needs)
+    (λ c κs. search needs)
+    (λ c κs. search needs)
+    (λ c κs. search needs)
+    (λ c. search needs)
+    (λ c κs. search needs)
+    (λ c κs. search needs)
+    (λ c. simp (c .before .match .keys1, c .write .ensures))
+    (λ c. simp (c .before .before .match .keys2, c .before .raise .ensures, c .write2 .ensures))
+    (λ c. simp (c .before .match .keys3, c .irq-write .ensures))
+    (λ c. simp (
+      ne-eqb _ _ (c .before .before .before .match .rest .0 .0 .1),
+      ne-eqb _ _ (c .before .before .before .match .rest .0 .1),
+      ne-eqb _ _ (c .before .before .before .match .rest .1),
+      between 0x10 0x17 _ (c .before .before .if1 .left) (c .before .if2 .taken),
+      c .map-write .ensures,
+    ))
+    (λ c. simp (
+      ne-eqb _ _ (c .before .before .match .rest .0 .0 .1),
+      ne-eqb _ _ (c .before .before .match .rest .0 .1),
+      ne-eqb _ _ (c .before .before .match .rest .1),
+      outside 0x10 0x17 _ (⊎-elim (λ w. inl (w .taken)) (λ w. inr (w .1 .left)) (c .before .if1 .came)),
+      c .write3 .ensures,
+    )))

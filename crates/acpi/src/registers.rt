@@ -1,0 +1,149 @@
+// Reads and writes of the registers, by their offset.
+use access::Answer;
+ghost use mathlib.Core.Path.{_≡_};
+ghost use Rattle.access.specs.Block.{result, status};
+ghost use Rattle.acpi.specs.Registers.{
+  controlRead,
+  registerValue,
+  registerRead,
+  commandWrite,
+  controlWrite,
+  registerWrite,
+};
+use crate::Acpi;
+use crate::AccessResult;
+
+impl AccessResult {
+    // A write's answer, which is a status alone.
+    pub fn write(number: u32, block: Acpi) -> Self
+        ensures { λ r. ⌜ result (r .answer) (r .block) ≡ status number block ⌝ }
+    {
+        AccessResult {
+            answer: Answer {
+                status: number,
+                value: 0,
+            },
+            block,
+        }
+    }
+}
+
+impl Acpi {
+    // PM1a_CNT reads SCI_EN in bit 0.
+    fn control_read(self) -> u32
+        ensures { λ r. ⌜ r ≡ controlRead self ⌝ }
+    {
+        if self.scien {
+            return mask::wide16(self.pm1cnt | Acpi::SCI_EN);
+        }
+        mask::wide16(self.pm1cnt)
+    }
+
+    // SMI_CMD reads 0.
+    fn register_value(self, offset: u32) -> u32
+        ensures { λ r. ⌜ r ≡ registerValue self offset ⌝ }
+    {
+        match offset {
+            0 => self.pcnt as u32,
+            8 => self.pm1sts as u32,
+            10 => self.pm1en as u32,
+            12 => self.control_read(),
+            14 => self.setupidx as u32,
+            16 => self.gpe0sts as u32,
+            18 => self.gpe0en as u32,
+            24 => self.timer,
+            _ => 0,
+        }
+    }
+
+    // A read of P_LVL2 or P_LVL3 puts the CPU state.
+    pub fn register_read(mut self, offset: u32) -> AccessResult
+        ensures { λ r. ⌜ result (r .answer) (r .block) ≡ registerRead self offset ⌝ }
+    {
+        match offset {
+            4 => {
+                self.cpu = 2;
+                AccessResult {
+                    answer: Answer::done(0),
+                    block: self,
+                }
+            }
+            5 => {
+                self.cpu = 3;
+                AccessResult {
+                    answer: Answer::done(0),
+                    block: self,
+                }
+            }
+            20 => AccessResult {
+                answer: self.setup_read(),
+                block: self,
+            },
+            _ => AccessResult {
+                answer: Answer::done(self.register_value(offset)),
+                block: self,
+            },
+        }
+    }
+
+    // SMI_CMD
+    fn command_write(mut self, value: u32) -> AccessResult
+        ensures { λ r. ⌜ result (r .answer) (r .block) ≡ commandWrite self value ⌝ }
+    {
+        match value {
+            1 => {
+                self.scien = true;
+                AccessResult::write(Answer::DONE, self)
+            }
+            2 => {
+                self.scien = false;
+                AccessResult::write(Answer::DONE, self)
+            }
+            _ => AccessResult::write(Answer::IGNORED, self),
+        }
+    }
+
+    // PM1a_CNT
+    fn control_write(mut self, value: u32) -> AccessResult
+        ensures { λ r. ⌜ result (r .answer) (r .block) ≡ controlWrite self value ⌝ }
+    {
+        self.pm1cnt = mask::masked16(value, Acpi::PM1CNT_MASK);
+        if value & Acpi::SLP_EN != 0 {
+            self.sleeping = true;
+            return AccessResult::write(Answer::DONE, self);
+        }
+        AccessResult::write(Answer::DONE, self)
+    }
+
+    pub fn register_write(mut self, offset: u32, value: u32) -> AccessResult
+        ensures { λ r. ⌜ result (r .answer) (r .block) ≡ registerWrite self offset value ⌝ }
+    {
+        match offset {
+            0 => {
+                self.pcnt = mask::masked8(value, Acpi::PCNT_MASK);
+                AccessResult::write(Answer::DONE, self)
+            }
+            6 => self.command_write(value),
+            8 => {
+                self.pm1sts = mask::cleared16(self.pm1sts, mask::masked16(value, Acpi::ALL));
+                AccessResult::write(Answer::DONE, self)
+            }
+            10 => {
+                self.pm1en = mask::masked16(value, Acpi::PM1EN_MASK);
+                AccessResult::write(Answer::DONE, self)
+            }
+            12 => self.control_write(value),
+            14 => self.setup_index_write(value),
+            16 => {
+                self.gpe0sts = mask::cleared16(self.gpe0sts, mask::masked16(value, Acpi::ALL));
+                AccessResult::write(Answer::DONE, self)
+            }
+            18 => {
+                self.gpe0en = mask::masked16(value, Acpi::ALL);
+                AccessResult::write(Answer::DONE, self)
+            }
+            20 => self.setup_write(value),
+            _ => AccessResult::write(Answer::BLOCKED, self),
+        }
+    }
+}
