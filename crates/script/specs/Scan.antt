@@ -1,10 +1,10 @@
 -- What a scan of a script finds, and the open blocks as the scan keeps them.
-use Prim.Native.Nat.{ℕ, zero, suc, _≤_}
+use Prim.Native.Nat.{ℕ, _≤_}
 use mathlib.Core.Path.{_≡_}
 use mathlib.Core.Bool.{Bool, cond, _&&_, _||_}
-use mathlib.Core.List.{List, [], _∷_}
+use mathlib.Core.List.{List, []}
 use lib.Dec.{eqb, leb}
-use lib.ListN.{getD, length}
+use lib.ListN.{length}
 use Rattle.record.specs.declared.Record.{Record}
 use Rattle.script.specs.Records.{recordsOf}
 use Rattle.script.specs.Refusals.{badFields, badKind, firstFault, misplaced, scriptRefusal, wordsIn, wrongMark, Refusal}
@@ -13,11 +13,6 @@ use Rattle.script.specs.declared.Found.{Found}
 -- what a record shows by itself: 2, 3, 4, or 0
 unfoldable pub shapeFault : Record → ℕ
 shapeFault r = cond (wrongMark r) 2 (cond (badKind r) 3 (cond (badFields r) 4 0))
-
--- the first n of the blocks that are kept, innermost first
-abbrev pub stackOf : ℕ → List ℕ → List ℕ
-stackOf zero xs = []
-stackOf (suc n) xs = getD xs n 0 ∷ stackOf n xs
 
 -- there is room for 16 blocks, and no more are open
 pub record Kept (blocks : List ℕ) (depth : ℕ) : Type 0 where
