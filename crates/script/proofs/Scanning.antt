@@ -13,6 +13,7 @@ use lib.Dec.{eqb, leb, ltb}
 use lib.ListN.{length, getD}
 use Rattle.lists.specs.Stack.{stackOf}
 use Rattle.lists.proofs.Stack.{stack-length}
+use Rattle.lists.proofs.Tests.{none-from}
 use Rattle.record.specs.Record.{recordAt, recordSize}
 use Rattle.record.specs.declared.Record.{Record}
 use Rattle.script.specs.Records.{recordCount, recordsFrom, recordsOf}
@@ -95,12 +96,8 @@ pub placed : (blocks : List ℕ) (depth kind : ℕ) → placeFault (stackOf dept
     → (misplaced (stackOf depth blocks) kind ≡ false) × (full depth kind ≡ false)
 unfolding placeFault
 placed blocks depth kind h =
-    pick (misplaced (stackOf depth blocks) kind) (full depth kind) (rw (stack-length depth blocks) at h)
-  where
-    pick : (m f : Bool) → _≡_ {A = ℕ} (cond m 5 (cond f 6 0)) 0 → (m ≡ false) × (f ≡ false)
-    pick true f q = absurd (omega arith)
-    pick false true q = absurd (omega arith)
-    pick false false q = (refl, refl)
+    let none = none-from (misplaced (stackOf depth blocks) kind ∷ full depth kind ∷ []) 5 (omega arith) (rw (stack-length depth blocks) at h) in
+    (none 0, none 1)
 
 -- a write, a read or a delay may stand anywhere
 pub anywhere : (blocks : List ℕ) (kind : ℕ) → kind ≤ 3 → placeFault blocks kind ≡ 0

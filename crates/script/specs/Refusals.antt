@@ -4,6 +4,7 @@ use mathlib.Core.Bool.{Bool, true, false, cond, not, _&&_, _||_}
 use mathlib.Core.List.{List, [], _∷_}
 use lib.Dec.{eqb, leb, ltb}
 use lib.ListN.{length}
+use Rattle.lists.specs.Tests.{firstFrom}
 use Rattle.record.specs.Record.{recordSize}
 use Rattle.record.specs.declared.Record.{Record}
 use Rattle.script.specs.Fields.{countFields, noFields, readFields, valueFields}
@@ -63,9 +64,7 @@ tooDeep blocks kind =
 -- the least number that a record meets, or 0
 unfoldable pub recordFault : List ℕ → Record → ℕ
 recordFault blocks r =
-    cond (wrongMark r) 2
-    (cond (badKind r) 3
-    (cond (badFields r) 4 (cond (misplaced blocks (r .kind)) 5 (cond (tooDeep blocks (r .kind)) 6 0))))
+    firstFrom 2 (wrongMark r ∷ badKind r ∷ badFields r ∷ misplaced blocks (r .kind) ∷ tooDeep blocks (r .kind) ∷ [])
 
 -- a refusal's number and place; number 0 is none
 pub record Refusal : Type 0 where
