@@ -24,18 +24,32 @@ impl Record {
     pub const WORD_MARK: u32 = 0x3CC3;
 }
 
+// The kind of the record that starts at an offset.
+pub fn kind_at(bytes: &[u8], at: usize) -> u32
+    requires { ⌜ at + recordSize ≤ length (now bytes) ⌝ }
+    ensures { λ r. ⌜ r ≡ recordAt (now (bytes .entry)) at .kind ⌝ }
+{
+    bytes[at + 2] as u32
+}
+
 // The record that starts at an offset.
 pub fn read(bytes: &[u8], at: usize) -> Record
     requires { ⌜ at + recordSize ≤ length (now bytes) ⌝ }
     ensures { λ r. ⌜ r ≡ recordAt (now (bytes .entry)) at ⌝ }
 {
+    let mark = two_at(bytes, at) as u32;
+    let kind = kind_at(bytes, at);
+    let width = bytes[at + 3] as u32;
+    let port = two_at(bytes, at + 4) as u32;
+    let target = two_at(bytes, at + 6) as u32;
+    let value = four_at(bytes, at + 8);
     Record {
-        mark: two_at(bytes, at) as u32,
-        kind: bytes[at + 2] as u32,
-        width: bytes[at + 3] as u32,
-        port: two_at(bytes, at + 4) as u32,
-        target: two_at(bytes, at + 6) as u32,
-        value: four_at(bytes, at + 8),
+        mark,
+        kind,
+        width,
+        port,
+        target,
+        value,
     }
 }
 

@@ -9,26 +9,20 @@ use Rattle.record.proofs.read.Tie as tie
 two-at-requires : tie.Need-two-at-requires
 two-at-requires c κs = search needs
 
-cast-t4 : tie.Need-cast-t4
-cast-t4 c = search needs
+cast-mark : tie.Need-cast-mark
+cast-mark c = search needs
 
-add-t5 : tie.Need-add-t5
-add-t5 c = search needs
+kind-at-requires : tie.Need-kind-at-requires
+kind-at-requires c κs = search needs
 
-shared-slice-read-t7 : tie.Need-shared-slice-read-t7
-shared-slice-read-t7 c = search needs
+add-width : tie.Need-add-width
+add-width c = search needs
 
-cast-t8 : tie.Need-cast-t8
-cast-t8 c = omega (arith, c .shared-slice-known2 .given (c .before .before .before .args .at + 2))
+shared-slice-read-width : tie.Need-shared-slice-read-width
+shared-slice-read-width c = search needs
 
-add-t9 : tie.Need-add-t9
-add-t9 c = search needs
-
-shared-slice-read-t11 : tie.Need-shared-slice-read-t11
-shared-slice-read-t11 c = search needs
-
-cast-t12 : tie.Need-cast-t12
-cast-t12 c = omega (arith, c .shared-slice-known3 .given (c .before .before .before .before .args .at + 3))
+cast-width : tie.Need-cast-width
+cast-width c = omega (arith, c .shared-slice-known2 .given (c .before .before .before .before .args .at + 3))
 
 add-two-at : tie.Need-add-two-at
 add-two-at c = search needs
@@ -36,8 +30,8 @@ add-two-at c = search needs
 two-at-requires-2 : tie.Need-two-at-requires-2
 two-at-requires-2 c κs = search needs
 
-cast-t15 : tie.Need-cast-t15
-cast-t15 c = search needs
+cast-port : tie.Need-cast-port
+cast-port c = search needs
 
 add-two-at-2 : tie.Need-add-two-at-2
 add-two-at-2 c = search needs
@@ -45,8 +39,8 @@ add-two-at-2 c = search needs
 two-at-requires-3 : tie.Need-two-at-requires-3
 two-at-requires-3 c κs = search needs
 
-cast-t18 : tie.Need-cast-t18
-cast-t18 c = search needs
+cast-target : tie.Need-cast-target
+cast-target c = search needs
 
 add-four-at : tie.Need-add-four-at
 add-four-at c = search needs
@@ -58,6 +52,7 @@ returns : tie.Need-returns
 unfolding recordAt
 returns c = simp (
   c .before .before .before .before .before .two-at .ensures,
+  c .before .before .before .before .kind-at .ensures,
   c .before .before .two-at2 .ensures,
   c .before .two-at3 .ensures,
   c .four-at .ensures,
@@ -68,19 +63,17 @@ read-spec =
     tie.close
     (tie.spec
     two-at-requires
-    cast-t4
-    add-t5
-    shared-slice-read-t7
-    cast-t8
-    add-t9
-    shared-slice-read-t11
-    cast-t12
+    cast-mark
+    kind-at-requires
+    add-width
+    shared-slice-read-width
+    cast-width
     add-two-at
     two-at-requires-2
-    cast-t15
+    cast-port
     add-two-at-2
     two-at-requires-3
-    cast-t18
+    cast-target
     add-four-at
     four-at-requires
     returns)
