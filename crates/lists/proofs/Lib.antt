@@ -1,4 +1,4 @@
 pub mod Tests
-pub mod Replicate
 pub mod Slice
+pub mod Replicate
 pub mod Stack
