@@ -9,15 +9,16 @@ use native.Mathlib.Omega.{arith}
 use borrow.Author.Tests.{eqb-false, eqb-true, le-ltb, ltb-false, ne-eqb}
 use lib.Dec.{eqb, ltb}
 use lib.ListN.{length, drop}
+use Rattle.record.specs.Record.{recordSize}
 use Rattle.script.specs.Records.{recordCount}
 use Rattle.script.specs.Refusals.{refusal, scriptRefusal, wordsIn}
 use Rattle.script.specs.Scan.{scriptScan}
 use Rattle.script.specs.declared.Found.{Found}
+use Rattle.script.proofs.Records.{counts}
 use Rattle.compiler.specs.Compile.{compiled, compileRefusal, imageAfter, tooShort}
 use Rattle.compiler.specs.Words.{imageBytes, wordsOf}
 use Rattle.compiler.specs.declared.Compiled.{Compiled}
 use Rattle.compiler.proofs.Places.{count-words}
-use Rattle.compiler.proofs.Walk.{counts}
 
 module _ (script image : List ℕ) (s : Found) (e : s ≡ scriptScan script) where
   number-is : s .number ≡ scriptRefusal script .number
@@ -45,7 +46,7 @@ module _ (script image : List ℕ) (s : Found) (e : s ≡ scriptScan script) whe
       (rw (n, n, number-is, place-is), rw (n, n))
 
   -- ---- the words do not fit
-  pub unfit : s .number ≡ 0 → ltb (length image) (12 * s .words) ≡ true
+  pub unfit : s .number ≡ 0 → ltb (length image) (recordSize * s .words) ≡ true
       → (_≡_ {A = Compiled} (record { refusal = 9; place = recordCount script % 4096; words = 0 }) (compiled script image))
       × (image ≡ imageAfter script image)
   unfolding compiled imageAfter compileRefusal
@@ -56,13 +57,13 @@ module _ (script image : List ℕ) (s : Found) (e : s ≡ scriptScan script) whe
       (rw (accepted-by z, t, p), rw (accepted-by z, t))
 
   -- ---- compiled
-  pub fit : s .number ≡ 0 → ltb (length image) (12 * s .words) ≡ false → 12 * length (wordsOf script) ≤ length image
+  pub fit : s .number ≡ 0 → ltb (length image) (recordSize * s .words) ≡ false → recordSize * length (wordsOf script) ≤ length image
   fit z l =
       rw (← (count-words script (accepted-by z)))
-      (ltb-false (length image) (12 * wordsIn script) (rw (words-are z) at l))
+      (ltb-false (length image) (recordSize * wordsIn script) (rw (words-are z) at l))
 
-  pub done : (now : List ℕ) → s .number ≡ 0 → ltb (length image) (12 * s .words) ≡ false
-      → now ≡ imageBytes (wordsOf script) ++ drop (12 * length (wordsOf script)) image
+  pub done : (now : List ℕ) → s .number ≡ 0 → ltb (length image) (recordSize * s .words) ≡ false
+      → now ≡ imageBytes (wordsOf script) ++ drop (recordSize * length (wordsOf script)) image
       → (_≡_ {A = Compiled} (record { refusal = 0; place = 0; words = s .words }) (compiled script image))
       × (now ≡ imageAfter script image)
   unfolding compiled imageAfter compileRefusal
@@ -73,20 +74,20 @@ module _ (script image : List ℕ) (s : Found) (e : s ≡ scriptScan script) whe
 -- "The compiler refuses a script exactly when it meets one of refusals 1 to 8 or the image buffer is shorter than its
 -- words."
 pub refuses-not : (script image : List ℕ) → compiled script image .refusal ≡ 0
-    → (scriptRefusal script .number ≡ 0) × (12 * wordsIn script ≤ length image)
+    → (scriptRefusal script .number ≡ 0) × (recordSize * wordsIn script ≤ length image)
 unfolding compiled compileRefusal
 refuses-not script image h =
     pick (eqb (scriptRefusal script .number) 0) (tooShort script image) refl refl h
   where
     pick : (a b : Bool) → eqb (scriptRefusal script .number) 0 ≡ a → tooShort script image ≡ b
         → cond a (cond b (refusal 9 (recordCount script)) (refusal 0 0)) (scriptRefusal script) .number ≡ 0
-        → (scriptRefusal script .number ≡ 0) × (12 * wordsIn script ≤ length image)
+        → (scriptRefusal script .number ≡ 0) × (recordSize * wordsIn script ≤ length image)
     pick true true p q z = absurd (omega arith)
     pick true false p q z =
-        (eqb-true (scriptRefusal script .number) 0 p, ltb-false (length image) (12 * wordsIn script) q)
+        (eqb-true (scriptRefusal script .number) 0 p, ltb-false (length image) (recordSize * wordsIn script) q)
     pick false b p q z = absurd (eqb-false (scriptRefusal script .number) 0 p z)
 
-pub accepts-all : (script image : List ℕ) → scriptRefusal script .number ≡ 0 → 12 * wordsIn script ≤ length image
+pub accepts-all : (script image : List ℕ) → scriptRefusal script .number ≡ 0 → recordSize * wordsIn script ≤ length image
     → compiled script image .refusal ≡ 0
 unfolding compiled compileRefusal
-accepts-all script image z l = rw (z, le-ltb (length image) (12 * wordsIn script) l)
+accepts-all script image z l = rw (z, le-ltb (length image) (recordSize * wordsIn script) l)

@@ -8,35 +8,35 @@ use native.Mathlib.Numerals.{add-one}
 use native.Mathlib.Omega.{arith}
 use lib.Dec.{eqb}
 use lib.ListN.{length, getD, take, drop, length-append}
-use Rattle.record.specs.Record.{bytesOf, recordAt}
+use Rattle.record.specs.Record.{bytesOf, recordAt, recordSize}
 use Rattle.record.specs.declared.Record.{Record}
 use Rattle.script.specs.Records.{recordCount, recordsFrom, recordsOf}
 use Rattle.script.specs.Refusals.{innermost, scriptRefusal}
 use Rattle.script.proofs.Flat.{accepts}
+use Rattle.script.proofs.Records.{behind-last, counts, from-here}
 use Rattle.compiler.specs.Emit.{ahead, Aimed, emitFlat, framesAfter, gives, targetFor, wordFor, wordKind}
 use Rattle.compiler.specs.Words.{halt, imageBytes, word, wordsOf}
 use Rattle.compiler.proofs.Ahead.{emit-script}
 use Rattle.compiler.proofs.Image.{one-more-word}
 use Rattle.compiler.proofs.Places.{count-words}
-use Rattle.compiler.proofs.Walk.{behind-last, counts, from-here}
 
 -- ---- what holds before record k
 pub record Emitting (script lent targets image : List ℕ) (count place k : ℕ) : Type 0 where
   pub few : count ≤ 1024
-  pub lies : 12 * count ≤ length script
+  pub lies : recordSize * count ≤ length script
   pub few-words : length (wordsOf script) ≤ 1024
-  pub fits : 12 * length (wordsOf script) ≤ length lent
+  pub fits : recordSize * length (wordsOf script) ≤ length lent
   pub inside : k ≤ count
   pub frames : List ℕ
   pub aimed : Aimed targets k frames place (recordsFrom (count - k) k script)
   pub words : List Record
   pub whole : words ++ emitFlat frames place (recordsFrom (count - k) k script) ≡ wordsOf script
   pub many : length words ≡ place
-  pub written : image ≡ imageBytes words ++ drop (12 * place) lent
+  pub written : image ≡ imageBytes words ++ drop (recordSize * place) lent
   pub same : length image ≡ length lent
 
 pub begins : (script lent targets : List ℕ) (count : ℕ) → count ≡ recordCount script
-    → scriptRefusal script .number ≡ 0 → 12 * length (wordsOf script) ≤ length lent
+    → scriptRefusal script .number ≡ 0 → recordSize * length (wordsOf script) ≤ length lent
     → Aimed targets 0 [] 0 (recordsOf script) → Emitting script lent targets lent count 0 0
 unfolding recordsOf
 begins script lent targets count e h l a =
@@ -81,7 +81,7 @@ gives-by frame lead kind = pick (eqb kind 7) _
     pick false t = refl
 
 module _ {script lent targets image : List ℕ} {count place k : ℕ} (g : Emitting script lent targets image count place k) where
-  pub has-room : (12 * place + 12 ≤ length image) × (place ≤ 1024)
+  pub has-room : (recordSize * place + recordSize ≤ length image) × (place ≤ 1024)
   has-room =
       let rest = emitFlat (g .frames) place (recordsFrom (count - k) k script) in
       let n : place + 1 ≤ length (wordsOf script) =
@@ -95,7 +95,7 @@ module _ {script lent targets image : List ℕ} {count place k : ℕ} (g : Emitt
       (omega (arith, g .fits, g .same), omega (arith, g .few-words))
 
   -- ---- record k
-  module _ {r : Record} (h : k < count) (e : r ≡ recordAt script (12 * k)) where
+  module _ {r : Record} (h : k < count) (e : r ≡ recordAt script (recordSize * k)) where
     abbrev rest : List Record
     rest = recordsFrom (count - (k + 1)) (k + 1) script
 
@@ -121,7 +121,7 @@ module _ {script lent targets image : List ℕ} {count place k : ℕ} (g : Emitt
     -- it gives a word, which is written
     pub goes-on : {w : Record} {now : List ℕ} → gives (getD targets k 0) (r .kind) ≡ true
         → w ≡ word (wordKind (r .kind)) (r .width) (r .port) (getD targets k 0) (r .value)
-        → now ≡ take (12 * place) image ++ (bytesOf w ++ drop 12 (drop (12 * place) image)) → length now ≡ length image
+        → now ≡ take (recordSize * place) image ++ (bytesOf w ++ drop recordSize (drop (recordSize * place) image)) → length now ≡ length image
         → Emitting script lent targets now count (place + 1) (k + 1)
     goes-on {w = w} b m i l =
         let y : gives (innermost (g .frames)) (r .kind) ≡ true = sym gives-so ∙ b in
@@ -161,8 +161,8 @@ module _ {script lent targets image : List ℕ} {count place k : ℕ} (g : Emitt
 
   -- the halt completes the words
   pub completes : {now : List ℕ} → count ≤ k
-      → now ≡ take (12 * place) image ++ (bytesOf halt ++ drop 12 (drop (12 * place) image))
-      → now ≡ imageBytes (wordsOf script) ++ drop (12 * length (wordsOf script)) lent
+      → now ≡ take (recordSize * place) image ++ (bytesOf halt ++ drop recordSize (drop (recordSize * place) image))
+      → now ≡ imageBytes (wordsOf script) ++ drop (recordSize * length (wordsOf script)) lent
   completes h i =
       let e : g .words ++ (halt ∷ []) ≡ wordsOf script =
       rw (behind-last script count k h) at (g .whole) in

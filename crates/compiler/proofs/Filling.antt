@@ -9,23 +9,22 @@ use native.Mathlib.Decide.{decLt}
 use native.Mathlib.Omega.{arith}
 use lib.Dec.{eqb}
 use lib.ListN.{length, getD, set, replicate, length-replicate, length-set}
-use lib.Seq.{getD-set-same}
-use Rattle.record.specs.Record.{recordAt}
+use Rattle.lists.specs.Stack.{stackOf}
+use Rattle.lists.proofs.Replicate.{replicate-at}
+use Rattle.lists.proofs.Stack.{stack-length, stack-push, stack-set-top, stack-top}
+use Rattle.record.specs.Record.{recordAt, recordSize}
 use Rattle.record.specs.declared.Record.{Record}
 use Rattle.script.specs.Records.{recordCount, recordsFrom, recordsOf}
 use Rattle.script.specs.Refusals.{scriptRefusal}
-use Rattle.script.specs.Scan.{stackOf}
 use Rattle.script.proofs.Flat.{accepted, accepts, numbers}
-use Rattle.script.proofs.Scanning.{length-stack}
-use Rattle.script.proofs.Stack.{stack-push, stack-store, stack-top}
+use Rattle.script.proofs.Records.{behind-last, counts, from-here}
 use Rattle.compiler.specs.Emit.{Aimed, placeAfter}
 use Rattle.compiler.proofs.Targets.{Aiming, as-many, completes, elses-wait, ends-close, first-waits, ifs-open, next, Next, none, passes, repeats-open}
-use Rattle.compiler.proofs.Walk.{behind-last, counts, from-here}
 
 -- ---- what holds before record k
 pub record Filling (script : List ℕ) (count : ℕ) (table waiting starts : List ℕ) (depth place k : ℕ) : Type 0 where
   pub few : count ≤ 1024
-  pub lies : 12 * count ≤ length script
+  pub lies : recordSize * count ≤ length script
   pub inside : k ≤ count
   pub near : place ≤ k
   pub deep : depth ≤ 16
@@ -34,11 +33,6 @@ pub record Filling (script : List ℕ) (count : ℕ) (table waiting starts : Lis
   pub aiming :
       Aiming (recordsOf script) (recordsFrom (count - k) k script) table (stackOf depth starts) (stackOf depth waiting)
       place k
-
-zeros : (n j : ℕ) → _≡_ {A = ℕ} (getD (replicate n 0) j 0) 0
-zeros zero j = refl
-zeros (suc n) zero = refl
-zeros (suc n) (suc j) = zeros n j
 
 pub begins : (script table waiting starts : List ℕ) (count : ℕ) → count ≡ recordCount script
     → scriptRefusal script .number ≡ 0 → table ≡ replicate 1024 0 → length waiting ≡ 16 → length starts ≡ 16
@@ -59,7 +53,7 @@ begins script table waiting starts count e h t w s =
         blocks = [];
         accepted = rw c (accepted (recordsOf script) [] 0 (accepts script h .faultless));
         waits = none;
-        fresh = λ j l. rw t (zeros 1024 j);
+        fresh = λ j l. rw t (replicate-at 0 1024 j);
         aims = λ targets below rest. rw c at rest;
       };
     }
@@ -68,7 +62,7 @@ begins script table waiting starts count e h t w s =
 pub record Turn (script : List ℕ) (count : ℕ) (table waiting starts : List ℕ) (depth place k kind : ℕ) : Type 0 where
   pub filling : Filling script count table waiting starts depth place k
   pub within : k < count
-  pub kind-is : kind ≡ recordAt script (12 * k) .kind
+  pub kind-is : kind ≡ recordAt script (recordSize * k) .kind
 
 either : (kind : ℕ) → 3 < kind → kind ≤ 5 → (kind ≡ 4) ⊎ (kind ≡ 5)
 either kind l m = pick (decLt kind 5)
@@ -83,7 +77,7 @@ module _ {script : List ℕ} {count : ℕ} {table waiting starts : List ℕ} {de
   g = t .filling
 
   abbrev r : Record
-  r = recordAt script (12 * k)
+  r = recordAt script (recordSize * k)
 
   abbrev rest : List Record
   rest = recordsFrom (count - (k + 1)) (k + 1) script
@@ -98,7 +92,7 @@ module _ {script : List ℕ} {count : ℕ} {table waiting starts : List ℕ} {de
   after = next (here .accepted)
 
   many : length (numbers (here .blocks)) ≡ depth
-  many = sym (as-many (here .waits)) ∙ length-stack depth starts
+  many = sym (as-many (here .waits)) ∙ stack-length depth starts
 
   -- ---- a write, a read or a delay
   pub passed : kind ≤ 3 → Filling script count table waiting starts depth (place + 1) (k + 1)
@@ -184,9 +178,7 @@ module _ {script : List ℕ} {count : ℕ} {table waiting starts : List ℕ} {de
     }
       where
         replaced : stackOf depth (set waiting (depth - 1) k) ≡ k ∷ stackOf (depth - 1) waiting
-        replaced =
-            stack-top depth (set waiting (depth - 1) k) o
-            ∙ (rw (getD-set-same waiting (depth - 1) k 0 (omega (arith, g .wide, g .deep)), stack-store (depth - 1) waiting (depth - 1) k (omega arith)))
+        replaced = stack-set-top depth waiting k o (omega (arith, g .wide, g .deep))
 
     pub ended : (behind : ℕ) → 5 < kind → (kind ≡ 6 → ⊥) → behind ≡ placeAfter (getD starts (depth - 1) 0) place 7
         → Filling script count (set (set table k (getD starts (depth - 1) 0)) (getD waiting (depth - 1) 0) behind) waiting

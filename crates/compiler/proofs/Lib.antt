@@ -1,6 +1,5 @@
 pub mod Ahead
 pub mod Places
-pub mod Walk
 pub mod Targets
 pub mod Filling
 pub mod Image

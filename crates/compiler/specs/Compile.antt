@@ -4,6 +4,7 @@ use mathlib.Core.Bool.{Bool, cond}
 use mathlib.Core.List.{List, _++_}
 use lib.Dec.{eqb, ltb}
 use lib.ListN.{drop, length}
+use Rattle.record.specs.Record.{recordSize}
 use Rattle.script.specs.Records.{recordCount}
 use Rattle.script.specs.Refusals.{Refusal, refusal, scriptRefusal, wordsIn}
 use Rattle.compiler.specs.Words.{imageBytes, wordsOf}
@@ -11,7 +12,7 @@ use Rattle.compiler.specs.declared.Compiled.{Compiled}
 
 -- 9: "image buffer too short (record count)"
 abbrev pub tooShort : List ℕ → List ℕ → Bool
-tooShort script image = ltb (length image) (12 * wordsIn script)
+tooShort script image = ltb (length image) (recordSize * wordsIn script)
 
 -- "then 7, 8, 9"
 unfoldable pub compileRefusal : List ℕ → List ℕ → Refusal
@@ -32,4 +33,4 @@ compiled script image = record {
 unfoldable pub imageAfter : List ℕ → List ℕ → List ℕ
 imageAfter script image =
     cond (eqb (compileRefusal script image .number) 0)
-    (imageBytes (wordsOf script) ++ drop (12 * wordsIn script) image) image
+    (imageBytes (wordsOf script) ++ drop (recordSize * wordsIn script) image) image

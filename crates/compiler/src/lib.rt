@@ -6,7 +6,7 @@ ghost use mathlib.Core.List.{[], _++_};
 ghost use Prim.Native.Nat.{_+_, _*_, _≤_, _/_};
 ghost use lib.Dec.{eqb, ltb};
 ghost use lib.ListN.{length, take, drop, replicate};
-ghost use Rattle.record.specs.Record.{bytesOf, recordAt};
+ghost use Rattle.record.specs.Record.{bytesOf, recordSize};
 ghost use Rattle.script.specs.Records.{recordsOf};
 ghost use Rattle.script.specs.Refusals.{scriptRefusal};
 ghost use Rattle.compiler.specs.Compile.{compiled, imageAfter};
@@ -30,14 +30,6 @@ const JUMP: u32 = 7;
 const HALT: u32 = 8;
 
 // ---- the targets
-
-// The kind of record k, which is all that the targets go by.
-fn kind_of(script: &[u8], k: usize) -> u32
-    requires { ⌜ 12 * k + 12 ≤ length (now script) ⌝ }
-    ensures { λ r. ⌜ r ≡ recordAt (now (script .entry)) (12 * k) .kind ⌝ }
-{
-    script[12 * k + 2] as u32
-}
 
 // What is kept of a block that opens: 0 for an if, the place of its body for a repeat.
 fn start_of(kind: u32, body: u32) -> u32
@@ -63,7 +55,7 @@ fn behind_end(start: u32, place: u32) -> u32
 // The target of each word, at its record's number: a loop end aims at its body; an enter, a test or an else waits for its
 // block's end, or a test for its else, and aims behind it.
 fn fill_targets(script: &[u8], count: usize, targets: &mut [u32; 1024])
-    requires { ⌜ (count ≡ length (now script) / 12) × (scriptRefusal (now script) .number ≡ 0) ⌝ }
+    requires { ⌜ (count ≡ length (now script) / recordSize) × (scriptRefusal (now script) .number ≡ 0) ⌝ }
     requires { ⌜ now targets ≡ replicate 1024 0 ⌝ }
     ensures { λ _. ⌜ Aimed (now (targets .exit)) 0 [] 0 (recordsOf (now (script .entry))) ⌝ }
 {
@@ -74,7 +66,8 @@ fn fill_targets(script: &[u8], count: usize, targets: &mut [u32; 1024])
     let mut place: u32 = 0;
     let mut k: usize = 0;
     while k < count {
-        let kind = kind_of(script, k);
+        // The kind of a record is all that the targets go by.
+        let kind = record::kind_at(script, Record::SIZE * k);
         let behind = place + 1;
         let next = k + 1;
         if kind <= script::DELAY {
@@ -149,8 +142,8 @@ fn gives(target: u32, kind: u32) -> bool
 
 // Writes a word into the part of the image that starts at the word's offset.
 fn put(image: &mut [u8], place: u32, w: Record)
-    requires { ⌜ (12 * place + 12 ≤ length (now image)) × (place ≤ 1024) ⌝ }
-    ensures { λ _. ⌜ now (image .exit) ≡ take (12 * place) (now (image .entry)) ++ (bytesOf w ++ drop 12 (drop (12 * place) (now (image .entry)))) ⌝ }
+    requires { ⌜ (recordSize * place + recordSize ≤ length (now image)) × (place ≤ 1024) ⌝ }
+    ensures { λ _. ⌜ now (image .exit) ≡ take (recordSize * place) (now (image .entry)) ++ (bytesOf w ++ drop recordSize (drop (recordSize * place) (now (image .entry)))) ⌝ }
 {
     let at = offset(place);
     record::write(&mut image[at..], w);
@@ -158,9 +151,9 @@ fn put(image: &mut [u8], place: u32, w: Record)
 
 // Where the word at `place` starts.
 fn offset(place: u32) -> usize
-    ensures { λ r. ⌜ r ≡ 12 * place ⌝ }
+    ensures { λ r. ⌜ r ≡ recordSize * place ⌝ }
 {
-    12 * index(place)
+    Record::SIZE * index(place)
 }
 
 fn index(place: u32) -> usize
@@ -171,16 +164,16 @@ fn index(place: u32) -> usize
 
 // Writes the words of a script that is accepted.
 fn emit(script: &[u8], count: usize, image: &mut [u8])
-    requires { ⌜ (count ≡ length (now script) / 12) × (scriptRefusal (now script) .number ≡ 0) ⌝ }
-    requires { ⌜ 12 * length (wordsOf (now script)) ≤ length (now image) ⌝ }
-    ensures { λ _. ⌜ now (image .exit) ≡ imageBytes (wordsOf (now (script .entry))) ++ drop (12 * length (wordsOf (now (script .entry)))) (now (image .entry)) ⌝ }
+    requires { ⌜ (count ≡ length (now script) / recordSize) × (scriptRefusal (now script) .number ≡ 0) ⌝ }
+    requires { ⌜ recordSize * length (wordsOf (now script)) ≤ length (now image) ⌝ }
+    ensures { λ _. ⌜ now (image .exit) ≡ imageBytes (wordsOf (now (script .entry))) ++ drop (recordSize * length (wordsOf (now (script .entry)))) (now (image .entry)) ⌝ }
 {
     let mut targets: [u32; 1024] = [0; 1024];
     fill_targets(script, count, &mut targets);
     let mut place: u32 = 0;
     let mut k: usize = 0;
     while k < count {
-        let r = record::read(script, 12 * k);
+        let r = record::read(script, Record::SIZE * k);
         let target = targets[k];
         let next = k + 1;
         if gives(target, r.kind) {
@@ -196,7 +189,7 @@ fn emit(script: &[u8], count: usize, image: &mut [u8])
 
 // Refusal 9: a buffer of `length` bytes does not hold so many words.
 fn too_short(length: usize, words: u32) -> bool
-    ensures { λ r. ⌜ r ≡ ltb length (12 * words) ⌝ }
+    ensures { λ r. ⌜ r ≡ ltb length (recordSize * words) ⌝ }
 {
     length < offset(words)
 }
@@ -206,7 +199,7 @@ pub fn compile(script: &[u8], image: &mut [u8]) -> Compiled
     ensures { λ r. ⌜ (r ≡ compiled (now (script .entry)) (now (image .entry))) × (now (image .exit) ≡ imageAfter (now (script .entry)) (now (image .entry))) ⌝ }
 {
     let found = script::scan(script);
-    let count = script.len() / 12;
+    let count = script.len() / Record::SIZE;
     if found.number != 0 {
         return Compiled {
             refusal: found.number,

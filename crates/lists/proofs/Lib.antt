@@ -1,4 +1,5 @@
 pub mod All
 pub mod Slice
+pub mod Replicate
 pub mod Stack
 pub mod Tests

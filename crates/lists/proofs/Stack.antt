@@ -1,11 +1,13 @@
--- A stack in the front of an array: a store at its height is a push, one below it changes the top. Assumes nothing.
+-- A stack in the front of an array: a store at its height is a push, one below it changes the top. The same of a stack laid
+-- out again as a list, bottom first. Assumes nothing.
 use Prim.Native.Nat.{ℕ, zero, suc, _+_, _-_, _≤_, _<_}
 use mathlib.Core.Path.{_≡_, refl, sym, ap, _∙_}
-use mathlib.Core.List.{List, _∷_}
+use mathlib.Core.List.{List, [], _∷_, _++_, reverse, reverseAux-eq}
 use native.Mathlib.Numerals.{add-one}
 use native.Mathlib.Omega.{arith}
-use lib.ListN.{length, getD, set}
-use lib.Seq.{getD-set-same, getD-set-other}
+use lib.ListN.{length, getD, set, length-reverse}
+use lib.Seq.{getD-at, getD-set-same, getD-set-other, set-at}
+use Rattle.lists.specs.Slice.{slice}
 use Rattle.lists.specs.Stack.{stackOf}
 
 pub stack-length : (n : ℕ) (xs : List ℕ) → length (stackOf n xs) ≡ n
@@ -37,3 +39,27 @@ stack-set-top n xs v h l =
     stack-top n (set xs (n - 1) v) h
     ∙ ap (λ (x : ℕ). x ∷ stackOf (n - 1) (set xs (n - 1) v)) (getD-set-same xs (n - 1) v 0 (omega arith))
     ∙ ap (_∷_ v) (stack-store (n - 1) xs (n - 1) v (omega arith))
+
+-- ---- a stack laid out, bottom first, in front of a rest: its top is the element in front of the rest
+pub laid-top : (c : ℕ) (cs rest : List ℕ) → reverse (c ∷ cs) ++ rest ≡ reverse cs ++ (c ∷ rest)
+laid-top c cs rest = sym (reverseAux-eq (c ∷ cs) rest) ∙ reverseAux-eq cs (c ∷ rest)
+
+pub laid-push : (cs rest : List ℕ) (x v : ℕ) → set (reverse cs ++ (x ∷ rest)) (length cs) v ≡ reverse (v ∷ cs) ++ rest
+laid-push cs rest x v = set-at (reverse cs) x rest v (length cs) (length-reverse cs) ∙ sym (laid-top v cs rest)
+
+pub laid-set-top : (c : ℕ) (cs rest : List ℕ) (v : ℕ) → set (reverse (c ∷ cs) ++ rest) (length cs) v ≡ reverse (v ∷ cs) ++ rest
+laid-set-top c cs rest v = rw (laid-top c cs rest) (laid-push cs rest c v)
+
+-- the stack of what is laid out, and the other way
+pub stack-laid : (cs rest : List ℕ) → stackOf (length cs) (reverse cs ++ rest) ≡ cs
+stack-laid [] rest = refl
+stack-laid (c ∷ cs) rest =
+    rw (laid-top c cs rest, getD-at (reverse cs) c rest 0 (length cs) (length-reverse cs), stack-laid cs (c ∷ rest))
+
+pub laid-stack : (n k : ℕ) (xs : List ℕ) → reverse (stackOf n xs) ++ slice 0 k n xs ≡ slice 0 (n + k) 0 xs
+laid-stack zero k xs =
+    let e : 0 + k ≡ k = omega arith in
+    rw e
+laid-stack (suc n) k xs =
+    let e : suc n + k ≡ n + suc k = omega arith in
+    rw e (laid-top (getD xs n 0) (stackOf n xs) (slice 0 k (suc n) xs) ∙ laid-stack n (suc k) xs)

@@ -36,15 +36,15 @@ pub first-holds : (bs : List Bool) (k : ℕ) → firstHolding bs ≡ suc k → F
 first-holds bs k e = first-from bs 1 k (omega arith) (e ∙ omega arith)
 
 -- and 0 exactly if none holds
+pub none-from : (bs : List Bool) (at : ℕ) → 0 < at → firstFrom at bs ≡ 0 → (k : ℕ) → holdsAt bs (suc k) ≡ false
+none-from [] at p h k = refl
+none-from (true ∷ bs) at p h k = absurd (omega (arith, h))
+none-from (false ∷ bs) at p h zero = refl
+none-from (false ∷ bs) at p h (suc k) = none-from bs (suc at) (omega arith) h k
+
 pub none-holds : (bs : List Bool) → firstHolding bs ≡ 0 → (k : ℕ) → holdsAt bs k ≡ false
 none-holds bs e zero = refl
-none-holds bs e (suc k) = from bs 1 (omega arith) e k
-  where
-    from : (cs : List Bool) (at : ℕ) → 0 < at → firstFrom at cs ≡ 0 → (k : ℕ) → holdsAt cs (suc k) ≡ false
-    from [] at p h k = refl
-    from (true ∷ cs) at p h k = absurd (omega (arith, h))
-    from (false ∷ cs) at p h zero = refl
-    from (false ∷ cs) at p h (suc k) = from cs (suc at) (omega arith) h k
+none-holds bs e (suc k) = none-from bs 1 (omega arith) e k
 
 -- a list of tests holds exactly if each of them does
 pub all-hold : (bs : List Bool) → All (λ b. b ≡ true) bs → allHold bs ≡ true

@@ -1,11 +1,16 @@
--- What is written is read back, and what is read is written again as it was. Assumes nothing.
-use Prim.Native.Nat.{ℕ, zero, suc, _<_}
+-- What is written is read back, and what is read is written again as it was; what lies in front of a number's bytes does not
+-- matter. Assumes nothing.
+use Prim.Native.Nat.{ℕ, zero, suc, _+_, _<_}
 use mathlib.Core.Path.{_≡_, refl}
 use mathlib.Core.Bool.{Bool, true, false}
+use mathlib.Core.List.{List, _++_}
 use lib.Dec.{eqb, ltb}
+use lib.ListN.{getD, length}
+use lib.Seq.{getD-append-add}
+use native.Mathlib.Nat.{add-assoc}
 use native.Mathlib.Omega.{arith}
 use borrow.Author.Tests.{ltb-true}
-use Rattle.little_endian.specs.Bytes.{byte0, byte1, byte2, byte3, flagByte, four, two}
+use Rattle.little_endian.specs.Bytes.{byte0, byte1, byte2, byte3, flagByte, four, fourAt, two, twoAt}
 
 -- ---- written, then read
 pub two-back : (x : ℕ) → x < 65536 → two (byte0 x) (byte1 x) ≡ x
@@ -46,3 +51,11 @@ pub byte-flag : (x : ℕ) → ltb x 2 ≡ true → flagByte (eqb x 1) ≡ x
 byte-flag zero h = refl
 byte-flag (suc zero) h = refl
 byte-flag (suc (suc x)) h = let l : suc (suc x) < 2 = ltb-true (suc (suc x)) 2 h in absurd (omega arith)
+
+-- ---- read behind a front
+module _ (front bytes : List ℕ) (k : ℕ) where
+  pub two-behind : twoAt (front ++ bytes) (length front + k) ≡ twoAt bytes k
+  two-behind = simp (add-assoc, getD-append-add)
+
+  pub four-behind : fourAt (front ++ bytes) (length front + k) ≡ fourAt bytes k
+  four-behind = simp (add-assoc, getD-append-add)

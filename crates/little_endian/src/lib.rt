@@ -1,6 +1,8 @@
 // Numbers of two and four bytes, least byte first.
 ghost use mathlib.Core.Path.{_≡_};
-ghost use Rattle.little_endian.specs.Bytes.{byte0, byte1, byte2, byte3, two, four};
+ghost use Prim.Native.Nat.{_+_, _≤_};
+ghost use lib.ListN.{length};
+ghost use Rattle.little_endian.specs.Bytes.{byte0, byte1, byte2, byte3, two, four, twoAt, fourAt};
 
 fn wide(b: u8) -> u32
     ensures { λ r. ⌜ r ≡ b ⌝ }
@@ -19,6 +21,21 @@ pub fn four(a: u8, b: u8, c: u8, d: u8) -> u32
     ensures { λ r. ⌜ r ≡ four a b c d ⌝ }
 {
     (wide(a) + wide(b) * 256) + (wide(c) + wide(d) * 256) * 65536
+}
+
+// The number whose bytes start at a place.
+pub fn two_at(bytes: &[u8], at: usize) -> u16
+    requires { ⌜ at + 2 ≤ length (now bytes) ⌝ }
+    ensures { λ r. ⌜ r ≡ twoAt (now (bytes .entry)) at ⌝ }
+{
+    two(bytes[at], bytes[at + 1])
+}
+
+pub fn four_at(bytes: &[u8], at: usize) -> u32
+    requires { ⌜ at + 4 ≤ length (now bytes) ⌝ }
+    ensures { λ r. ⌜ r ≡ fourAt (now (bytes .entry)) at ⌝ }
+{
+    four(bytes[at], bytes[at + 1], bytes[at + 2], bytes[at + 3])
 }
 
 // A number's bytes, from the least on.

@@ -1,21 +1,17 @@
 -- Document 01, "Scripts and images": the sequencer's state and its range. "at most 8 counters, those in use 1 to 65,535, the
 -- rest 0"
-use Prim.Native.Nat.{ℕ, zero, suc, _-_}
+use Prim.Native.Nat.{ℕ, _-_}
 use mathlib.Core.Bool.{Bool, cond, _&&_}
-use mathlib.Core.List.{List, [], _∷_}
+use mathlib.Core.List.{List, _++_, reverse}
 use lib.Dec.{eqb, leb, ltb}
-use lib.ListN.{getD, length}
+use lib.ListN.{getD, length, replicate}
+use Rattle.lists.specs.Stack.{stackOf}
 use Rattle.mask.specs.Every.{allBelow}
-use Rattle.script.specs.Scan.{stackOf}
 use Rattle.machine.specs.declared.Sequencer.{Sequencer}
-
-abbrev pub zeros : ℕ → List ℕ
-zeros zero = []
-zeros (suc n) = 0 ∷ zeros n
 
 -- place 0, no counter in use
 abbrev pub freshSequencer : Sequencer
-freshSequencer = record { place = 0; counters = zeros 8; used = 0 }
+freshSequencer = record { place = 0; counters = replicate 8 0; used = 0 }
 
 abbrev pub counterInRange : (used k counter : ℕ) → Bool
 counterInRange used k c = cond (ltb k used) (leb 1 c && leb c 65535) (eqb c 0)
@@ -28,13 +24,9 @@ sequencerInRange s = leb (s .used) 8 && allBelow 8 (λ k. counterInRange (s .use
 abbrev pub countersOf : Sequencer → List ℕ
 countersOf s = stackOf (s .used) (s .counters)
 
--- counters in use laid bottom first in front of the rest
-abbrev pub laidOn : List ℕ → List ℕ → List ℕ
-laidOn [] rest = rest
-laidOn (c ∷ cs) rest = laidOn cs (c ∷ rest)
-
+-- counters in use, top first, laid out as the eight: bottom first, and then the rest
 abbrev pub laid : List ℕ → List ℕ
-laid cs = laidOn cs (zeros (8 - length cs))
+laid cs = reverse cs ++ replicate (8 - length cs) 0
 
 abbrev pub sequencerAt : ℕ → List ℕ → Sequencer
 sequencerAt place cs = record { place = place; counters = laid cs; used = length cs }

@@ -1,29 +1,28 @@
 -- Document 01, "Scripts and images": "Records of 12 bytes: mark (2), kind, width, port (2), target (2), value (4), least
 -- byte first."
-use Prim.Native.Nat.{ℕ, _+_, _*_, _/_, _%_}
+use Prim.Native.Nat.{ℕ, _+_}
 use mathlib.Core.List.{List, [], _∷_}
 use lib.ListN.{getD}
+use Rattle.little_endian.specs.Bytes.{byte0, byte1, byte2, byte3, fourAt, twoAt}
 use Rattle.record.specs.declared.Record.{Record}
 
-abbrev pub pair : ℕ → ℕ → ℕ
-pair low high = low + high * 256
+abbrev pub recordSize : ℕ
+recordSize = 12
 
 -- the record whose twelve bytes start at a place
 unfoldable pub recordAt : List ℕ → ℕ → Record
 recordAt bytes at = record {
-  mark = pair (getD bytes at 0) (getD bytes (at + 1) 0);
+  mark = twoAt bytes at;
   kind = getD bytes (at + 2) 0;
   width = getD bytes (at + 3) 0;
-  port = pair (getD bytes (at + 4) 0) (getD bytes (at + 5) 0);
-  target = pair (getD bytes (at + 6) 0) (getD bytes (at + 7) 0);
-  value =
-      pair (getD bytes (at + 8) 0) (getD bytes (at + 9) 0)
-      + pair (getD bytes (at + 10) 0) (getD bytes (at + 11) 0) * 65536;
+  port = twoAt bytes (at + 4);
+  target = twoAt bytes (at + 6);
+  value = fourAt bytes (at + 8);
 }
 
 -- its twelve bytes
 unfoldable pub bytesOf : Record → List ℕ
 bytesOf r =
-    r .mark % 256 ∷ r .mark / 256 % 256 ∷ r .kind % 256 ∷ r .width % 256 ∷ r .port % 256 ∷ r .port / 256 % 256
-    ∷ r .target % 256 ∷ r .target / 256 % 256 ∷ r .value % 256 ∷ r .value / 256 % 256 ∷ r .value / 256 / 256 % 256
-    ∷ r .value / 256 / 256 / 256 % 256 ∷ []
+    byte0 (r .mark) ∷ byte1 (r .mark) ∷ byte0 (r .kind) ∷ byte0 (r .width) ∷ byte0 (r .port) ∷ byte1 (r .port)
+    ∷ byte0 (r .target) ∷ byte1 (r .target) ∷ byte0 (r .value) ∷ byte1 (r .value) ∷ byte2 (r .value) ∷ byte3 (r .value)
+    ∷ []

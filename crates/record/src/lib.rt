@@ -1,10 +1,11 @@
 // The 12-byte record that scripts and images share: mark (2), kind, width, port (2), target (2), value (4), least byte
 // first.
+use little_endian::{byte0, byte1, byte2, byte3, four_at, two_at};
 ghost use mathlib.Core.Path.{_≡_};
-ghost use Prim.Native.Nat.{_+_, _*_, _%_, _≤_};
+ghost use Prim.Native.Nat.{_+_, _≤_};
 ghost use lib.ListN.{length, drop};
 ghost use mathlib.Core.List.{_++_};
-ghost use Rattle.record.specs.Record.{recordAt, bytesOf, pair};
+ghost use Rattle.record.specs.Record.{recordAt, recordSize, bytesOf};
 
 pub struct Record {
     pub mark: u32,
@@ -23,60 +24,50 @@ impl Record {
     pub const WORD_MARK: u32 = 0x3CC3;
 }
 
-fn wide(b: u8) -> u32
-    ensures { λ r. ⌜ r ≡ b ⌝ }
+// The kind of the record that starts at an offset.
+pub fn kind_at(bytes: &[u8], at: usize) -> u32
+    requires { ⌜ at + recordSize ≤ length (now bytes) ⌝ }
+    ensures { λ r. ⌜ r ≡ recordAt (now (bytes .entry)) at .kind ⌝ }
 {
-    b as u32
-}
-
-fn two(low: u8, high: u8) -> u32
-    ensures { λ r. ⌜ r ≡ pair low high ⌝ }
-{
-    wide(low) + wide(high) * 256
-}
-
-fn four(a: u8, b: u8, c: u8, d: u8) -> u32
-    ensures { λ r. ⌜ r ≡ pair a b + pair c d * 65536 ⌝ }
-{
-    (wide(a) + wide(b) * 256) + (wide(c) + wide(d) * 256) * 65536
+    bytes[at + 2] as u32
 }
 
 // The record that starts at an offset.
 pub fn read(bytes: &[u8], at: usize) -> Record
-    requires { ⌜ at + 12 ≤ length (now bytes) ⌝ }
+    requires { ⌜ at + recordSize ≤ length (now bytes) ⌝ }
     ensures { λ r. ⌜ r ≡ recordAt (now (bytes .entry)) at ⌝ }
 {
+    let mark = two_at(bytes, at) as u32;
+    let kind = kind_at(bytes, at);
+    let width = bytes[at + 3] as u32;
+    let port = two_at(bytes, at + 4) as u32;
+    let target = two_at(bytes, at + 6) as u32;
+    let value = four_at(bytes, at + 8);
     Record {
-        mark: two(bytes[at], bytes[at + 1]),
-        kind: wide(bytes[at + 2]),
-        width: wide(bytes[at + 3]),
-        port: two(bytes[at + 4], bytes[at + 5]),
-        target: two(bytes[at + 6], bytes[at + 7]),
-        value: four(bytes[at + 8], bytes[at + 9], bytes[at + 10], bytes[at + 11]),
+        mark,
+        kind,
+        width,
+        port,
+        target,
+        value,
     }
-}
-
-fn byte(x: u32) -> u8
-    ensures { λ r. ⌜ r ≡ x % 256 ⌝ }
-{
-    (x % 256) as u8
 }
 
 // Writes the record into the first twelve bytes of a part.
 pub fn write(part: &mut [u8], word: Record)
-    requires { ⌜ 12 ≤ length (now part) ⌝ }
-    ensures { λ _. ⌜ now (part .exit) ≡ bytesOf word ++ drop 12 (now (part .entry)) ⌝ }
+    requires { ⌜ recordSize ≤ length (now part) ⌝ }
+    ensures { λ _. ⌜ now (part .exit) ≡ bytesOf word ++ drop recordSize (now (part .entry)) ⌝ }
 {
-    part[0] = byte(word.mark);
-    part[1] = byte(word.mark / 256);
-    part[2] = byte(word.kind);
-    part[3] = byte(word.width);
-    part[4] = byte(word.port);
-    part[5] = byte(word.port / 256);
-    part[6] = byte(word.target);
-    part[7] = byte(word.target / 256);
-    part[8] = byte(word.value);
-    part[9] = byte(word.value / 256);
-    part[10] = byte(word.value / 256 / 256);
-    part[11] = byte(word.value / 256 / 256 / 256);
+    part[0] = byte0(word.mark);
+    part[1] = byte1(word.mark);
+    part[2] = byte0(word.kind);
+    part[3] = byte0(word.width);
+    part[4] = byte0(word.port);
+    part[5] = byte1(word.port);
+    part[6] = byte0(word.target);
+    part[7] = byte1(word.target);
+    part[8] = byte0(word.value);
+    part[9] = byte1(word.value);
+    part[10] = byte2(word.value);
+    part[11] = byte3(word.value);
 }

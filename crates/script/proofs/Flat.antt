@@ -2,12 +2,14 @@
 -- nested reading. Also what the scan has made sure of, as a list with its open blocks. Assumes nothing.
 use Prim.Native.Nat.{ℕ, zero, suc, _≤_, _<_}
 use mathlib.Core.Path.{_≡_, refl, sym, ap, _∙_}
-use mathlib.Core.Bool.{Bool, true, false, cond, true≢false, false≢true, _&&_, _||_}
+use mathlib.Core.Bool.{Bool, true, false, cond, true≢false, _&&_, _||_}
 use mathlib.Core.List.{List, [], _∷_}
 use borrow.Author.Tests.{eqb-true, eqb-false, leb-true, leb-false, le-ltb, ltb-false, not-false}
 use lib.Dec.{eqb, leb}
 use lib.ListN.{length}
 use native.Mathlib.Omega.{arith}
+use Rattle.lists.proofs.Tests.{none-from}
+use Rattle.mask.proofs.Every.{both, neither}
 use Rattle.record.specs.declared.Record.{Record}
 use Rattle.width.specs.Width.{fitsWidth, isWidth}
 use Rattle.script.specs.Nested.{Body, done, write, read, delay, repeat, if, ifElse, Reading, top, ended, elsed, broken, before, repeated, elseTested, tested, readingOf, bodyIn, scriptRecord, elseRecord, endRecord, flat}
@@ -56,24 +58,6 @@ pub data Accepted : List Block → List Record → Type 0 where
   ends : {b : Block} {bs : List Block} {rs : List Record} → Accepted bs rs → Accepted (b ∷ bs) (endRecord ∷ rs)
 
 -- ---- what a record without a fault shows
-passes : (a b c d e : Bool)
-    → _≡_ {A = ℕ} (cond a 2 (cond b 3 (cond c 4 (cond d 5 (cond e 6 0))))) 0
-    → (a ≡ false) × (b ≡ false) × (c ≡ false) × (d ≡ false) × (e ≡ false)
-passes true b c d e h = absurd (omega arith)
-passes false true c d e h = absurd (omega arith)
-passes false false true d e h = absurd (omega arith)
-passes false false false true e h = absurd (omega arith)
-passes false false false false true h = absurd (omega arith)
-passes false false false false false h = (refl, refl, refl, refl, refl)
-
-both : (a b : Bool) → (a && b) ≡ true → (a ≡ true) × (b ≡ true)
-both true b e = (refl, e)
-both false b e = absurd (false≢true e)
-
-neither : (a b : Bool) → (a || b) ≡ false → (a ≡ false) × (b ≡ false)
-neither true b e = absurd (true≢false e)
-neither false b e = (refl, e)
-
 abbrev kindFields : Record → Bool
 kindFields r =
     cond (eqb (r .kind) 1 || eqb (r .kind) 5) (valueFields r)
@@ -91,17 +75,17 @@ record Passed (blocks : List ℕ) (r : Record) : Type 0 where
 passed : (blocks : List ℕ) (r : Record) → recordFault blocks r ≡ 0 → Passed blocks r
 unfolding recordFault
 passed blocks r h =
-    let a = passes (wrongMark r) (badKind r) (badFields r) (misplaced blocks (r .kind)) (tooDeep blocks (r .kind)) h in
-    let k = both (leb 1 (r .kind)) (leb (r .kind) 7) (not-false (leb 1 (r .kind) && leb (r .kind) 7) (a .1)) in
-    let f = both (eqb (r .target) 0) (kindFields r) (not-false (goodFields r) (a .2)) in
+    let none = none-from (wrongMark r ∷ badKind r ∷ badFields r ∷ misplaced blocks (r .kind) ∷ tooDeep blocks (r .kind) ∷ []) 2 (omega arith) h in
+    let k = both (leb 1 (r .kind)) (leb (r .kind) 7) (not-false (leb 1 (r .kind) && leb (r .kind) 7) (none 1)) in
+    let f = both (eqb (r .target) 0) (kindFields r) (not-false (goodFields r) (none 2)) in
     record {
-      marked = eqb-true (r .mark) 0xA55A (not-false (eqb (r .mark) 0xA55A) (a .0));
+      marked = eqb-true (r .mark) 0xA55A (not-false (eqb (r .mark) 0xA55A) (none 0));
       least = leb-true 1 (r .kind) (k .0);
       most = leb-true (r .kind) 7 (k .1);
       untargeted = eqb-true (r .target) 0 (f .0);
       fields = f .1;
-      placed = a .3;
-      shallow = a .4;
+      placed = none 3;
+      shallow = none 4;
     }
 
 abbrev whole : (m k w p t v : ℕ) → Record

@@ -11,7 +11,10 @@ use native.Mathlib.Omega.{arith}
 use borrow.Author.Tests.{ne-eqb, le-leb, le-ltb, lt-leb, lt-ltb, eqb-false, eqb-true, ltb-false}
 use lib.Dec.{eqb, leb, ltb}
 use lib.ListN.{length, getD}
-use Rattle.record.specs.Record.{recordAt}
+use Rattle.lists.specs.Stack.{stackOf}
+use Rattle.lists.proofs.Stack.{stack-length}
+use Rattle.lists.proofs.Tests.{none-from}
+use Rattle.record.specs.Record.{recordAt, recordSize}
 use Rattle.record.specs.declared.Record.{Record}
 use Rattle.script.specs.Records.{recordCount, recordsFrom, recordsOf}
 use Rattle.script.specs.Refusals.{
@@ -34,8 +37,9 @@ use Rattle.script.specs.Refusals.{
   badLength,
   Refusal,
 }
-use Rattle.script.specs.Scan.{Kept, full, placeFault, recordsScan, refusedAt, scriptScan, shapeFault, stackOf}
+use Rattle.script.specs.Scan.{Kept, full, placeFault, recordsScan, refusedAt, scriptScan, shapeFault}
 use Rattle.script.specs.declared.Found.{Found}
+use Rattle.script.proofs.Records.{behind-last, from-here}
 
 -- ---- a record's fault, from what it shows by itself and from the open blocks
 pub fault-parts : (blocks : List ℕ) (r : Record) →
@@ -50,10 +54,6 @@ fault-parts blocks r = pick (wrongMark r) (badKind r) (badFields r) (cond (mispl
     pick false true c n = refl
     pick false false true n = refl
     pick false false false n = refl
-
-pub length-stack : (n : ℕ) (xs : List ℕ) → length (stackOf n xs) ≡ n
-length-stack zero xs = refl
-length-stack (suc n) xs = ap suc (length-stack n xs)
 
 -- ---- the walk over the open blocks
 one-more : (b : Bool) (n : ℕ) → cond b (suc n) n ≡ n + cond b 1 0
@@ -96,12 +96,8 @@ pub placed : (blocks : List ℕ) (depth kind : ℕ) → placeFault (stackOf dept
     → (misplaced (stackOf depth blocks) kind ≡ false) × (full depth kind ≡ false)
 unfolding placeFault
 placed blocks depth kind h =
-    pick (misplaced (stackOf depth blocks) kind) (full depth kind) (rw (length-stack depth blocks) at h)
-  where
-    pick : (m f : Bool) → _≡_ {A = ℕ} (cond m 5 (cond f 6 0)) 0 → (m ≡ false) × (f ≡ false)
-    pick true f q = absurd (omega arith)
-    pick false true q = absurd (omega arith)
-    pick false false q = (refl, refl)
+    let none = none-from (misplaced (stackOf depth blocks) kind ∷ full depth kind ∷ []) 5 (omega arith) (rw (stack-length depth blocks) at h) in
+    (none 0, none 1)
 
 -- a write, a read or a delay may stand anywhere
 pub anywhere : (blocks : List ℕ) (kind : ℕ) → kind ≤ 3 → placeFault blocks kind ≡ 0
@@ -128,7 +124,7 @@ pub good : (blocks : List ℕ) (depth : ℕ) (r : Record) → shapeFault r ≡ 0
 good blocks depth r s p few =
     let q = placed blocks depth (r .kind) p in
     fault-parts (stackOf depth blocks) r
-    ∙ (rw (s, q .0, length-stack depth blocks, q .1, pick (eqb (r .kind) 4) few))
+    ∙ (rw (s, q .0, stack-length depth blocks, q .1, pick (eqb (r .kind) 4) few))
   where
     pick : (b : Bool) → repeatsIn (stackOf (cond b depth 0) blocks) < 8 → (b && leb 8 (repeatsIn (stackOf depth blocks))) ≡ false
     pick true l = lt-leb 8 (repeatsIn (stackOf depth blocks)) l
@@ -157,12 +153,6 @@ pub record Going (bytes : List ℕ) (count : ℕ) (blocks : List ℕ) (depth wor
       words + wordCount (stackOf depth blocks) (recordsFrom (count - k) k bytes)
       ≡ suc (wordCount [] (recordsFrom count 0 bytes))
   pub few : words ≤ suc k
-
-rest : (bytes : List ℕ) (count k : ℕ) → k < count
-    → recordsFrom (count - k) k bytes ≡ recordAt bytes (12 * k) ∷ recordsFrom (count - suc k) (suc k) bytes
-rest bytes count k h =
-    let e : count - k ≡ suc (count - suc k) = omega arith in
-    rw e
 
 -- before the first record
 pub starts : (bytes : List ℕ) (count : ℕ) (blocks : List ℕ) → length blocks ≡ 16 → Going bytes count blocks 0 1 0 0
@@ -193,47 +183,43 @@ scan-faulted bytes count number k e f z = rw (rw e at f, ne-eqb number 0 z)
 
 module _ (bytes : List ℕ) (count : ℕ) (blocks : List ℕ) (depth words number k : ℕ) (g : Going bytes count blocks depth words number k) where
   -- a fault ends the scan with its number and place
-  pub faulty : (r : Record) (n : ℕ) → k < count → r ≡ recordAt bytes (12 * k) → recordFault (stackOf depth blocks) r ≡ n
+  pub faulty : (r : Record) (n : ℕ) → k < count → r ≡ recordAt bytes (recordSize * k) → recordFault (stackOf depth blocks) r ≡ n
       → (n ≡ 0 → ⊥) → firstFault [] 0 (recordsFrom count 0 bytes) ≡ refusal n k
   faulty r n h q e z =
-      g .fault ∙ ap (firstFault (stackOf depth blocks) k) (rest bytes count k h) ∙ (rw (rw q at e, ne-eqb n 0 z))
+      g .fault ∙ ap (firstFault (stackOf depth blocks) k) (from-here bytes count k h) ∙ (rw (rw q at e, ne-eqb n 0 z))
 
   -- a good record
-  pub further : (r : Record) (later : List ℕ) (next clear : ℕ) → k < count → r ≡ recordAt bytes (12 * k) → Kept later next
+  pub further : (r : Record) (later : List ℕ) (next clear : ℕ) → k < count → r ≡ recordAt bytes (recordSize * k) → Kept later next
       → clear ≡ 0 → recordFault (stackOf depth blocks) r ≡ 0 → stackOf next later ≡ openAfter (stackOf depth blocks) (r .kind)
       → Going bytes count later next (words + cond (givesWord (stackOf depth blocks) (r .kind)) 1 0) clear (k + 1)
   further r later next clear h q kp c z e = record {
     kept = kp;
     inside = omega arith;
     clear = c;
-    fault =
-        g .fault
-        ∙ ap (firstFault (stackOf depth blocks) k) (rest bytes count k h ∙ ap (λ (x : Record). x ∷ recordsFrom (count - suc k) (suc k) bytes) (sym q))
-        ∙ (rw (z, add-one k, e));
+    fault = g .fault ∙ ap (firstFault (stackOf depth blocks) k) here ∙ (rw (z, add-one k, e));
     given =
-        rw (add-one k, e)
+        rw e
         (counted (givesWord (stackOf depth blocks) (r .kind)) words
-        (wordCount (openAfter (stackOf depth blocks) (r .kind)) (recordsFrom (count - suc k) (suc k) bytes)) _
-        (ap (λ (l : List Record). words + wordCount (stackOf depth blocks) l)
-        (ap (λ (x : Record). x ∷ recordsFrom (count - suc k) (suc k) bytes) q ∙ sym (rest bytes count k h))
-        ∙ g .given));
+        (wordCount (openAfter (stackOf depth blocks) (r .kind)) (recordsFrom (count - (k + 1)) (k + 1) bytes)) _
+        (ap (λ (l : List Record). words + wordCount (stackOf depth blocks) l) (sym here) ∙ g .given));
     few = omega (arith, g .few, at-most-one (givesWord (stackOf depth blocks) (r .kind)));
   }
+    where
+      here : recordsFrom (count - k) k bytes ≡ r ∷ recordsFrom (count - (k + 1)) (k + 1) bytes
+      here = rw (from-here bytes count k h, q)
 
   pub scan-unended : count ≤ k → count ≡ recordCount bytes → (innermost (stackOf depth blocks) ≡ 0 → ⊥)
       → refusedAt 7 k ≡ recordsScan bytes
   scan-unended h e z =
-      let l : count - k ≡ 0 = omega arith in
-      let f = rw l at (g .fault) in
+      let f = rw (behind-last bytes count k h) at (g .fault) in
       scan-faulted bytes count 7 k e (f ∙ (rw (ne-eqb (innermost (stackOf depth blocks)) 0 z))) (λ q. omega arith)
 
   pub scan-done : count ≤ k → count ≡ recordCount bytes → innermost (stackOf depth blocks) ≡ 0
       → _≡_ {A = Found} (record { number = 0; place = 0; words = words }) (recordsScan bytes)
   unfolding recordsScan recordsOf
   scan-done h e z =
-      let l : count - k ≡ 0 = omega arith in
-      let f = rw l at (g .fault) in
-      let n = rw l at (g .given) in
+      let f = rw (behind-last bytes count k h) at (g .fault) in
+      let n = rw (behind-last bytes count k h) at (g .given) in
       let w : words ≡ wordCount [] (recordsFrom count 0 bytes) = omega arith in
       rw (w, ← e, f, z)
 
@@ -259,13 +245,6 @@ pub scan-length : (bytes : List ℕ) → badLength bytes ≡ true
     → refusedAt 1 0 ≡ scriptScan bytes
 unfolding scriptScan scriptRefusal
 scan-length bytes h = rw h
-
-pub few-records : (bytes : List ℕ) → badLength bytes ≡ false → recordCount bytes ≤ 1024
-few-records bytes h = pick (not (eqb (length bytes % 12) 0)) h
-  where
-    pick : (a : Bool) → (a || ltb 1024 (recordCount bytes)) ≡ false → recordCount bytes ≤ 1024
-    pick true e = let z : _≡_ {A = ℕ} 0 1 = cc in absurd (omega arith)
-    pick false e = ltb-false 1024 (recordCount bytes) e
 
 module _ (bytes : List ℕ) (s : Found) (e : s ≡ recordsScan bytes) (h : badLength bytes ≡ false) where
   number-is : s .number ≡ firstFault [] 0 (recordsOf bytes) .number

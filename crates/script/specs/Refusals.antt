@@ -4,13 +4,15 @@ use mathlib.Core.Bool.{Bool, true, false, cond, not, _&&_, _||_}
 use mathlib.Core.List.{List, [], _∷_}
 use lib.Dec.{eqb, leb, ltb}
 use lib.ListN.{length}
+use Rattle.lists.specs.Tests.{firstFrom}
+use Rattle.record.specs.Record.{recordSize}
 use Rattle.record.specs.declared.Record.{Record}
 use Rattle.script.specs.Fields.{countFields, noFields, readFields, valueFields}
 use Rattle.script.specs.Records.{recordCount, recordsOf}
 
 -- 1: "script length no multiple of 12, or over 1,024 records (0)"
 abbrev pub badLength : List ℕ → Bool
-badLength bytes = not (eqb (length bytes % 12) 0) || ltb 1024 (recordCount bytes)
+badLength bytes = not (eqb (length bytes % recordSize) 0) || ltb 1024 (recordCount bytes)
 
 -- 2: "wrong mark (record)"; "Script mark 5A A5"
 abbrev pub wrongMark : Record → Bool
@@ -62,9 +64,7 @@ tooDeep blocks kind =
 -- the least number that a record meets, or 0
 unfoldable pub recordFault : List ℕ → Record → ℕ
 recordFault blocks r =
-    cond (wrongMark r) 2
-    (cond (badKind r) 3
-    (cond (badFields r) 4 (cond (misplaced blocks (r .kind)) 5 (cond (tooDeep blocks (r .kind)) 6 0))))
+    firstFrom 2 (wrongMark r ∷ badKind r ∷ badFields r ∷ misplaced blocks (r .kind) ∷ tooDeep blocks (r .kind) ∷ [])
 
 -- a refusal's number and place; number 0 is none
 pub record Refusal : Type 0 where

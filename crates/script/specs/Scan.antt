@@ -1,10 +1,11 @@
 -- What a scan of a script finds, and the open blocks as the scan keeps them.
-use Prim.Native.Nat.{ℕ, zero, suc, _≤_}
+use Prim.Native.Nat.{ℕ, _≤_}
 use mathlib.Core.Path.{_≡_}
 use mathlib.Core.Bool.{Bool, cond, _&&_, _||_}
 use mathlib.Core.List.{List, [], _∷_}
 use lib.Dec.{eqb, leb}
-use lib.ListN.{getD, length}
+use lib.ListN.{length}
+use Rattle.lists.specs.Tests.{firstFrom}
 use Rattle.record.specs.declared.Record.{Record}
 use Rattle.script.specs.Records.{recordsOf}
 use Rattle.script.specs.Refusals.{badFields, badKind, firstFault, misplaced, scriptRefusal, wordsIn, wrongMark, Refusal}
@@ -12,12 +13,7 @@ use Rattle.script.specs.declared.Found.{Found}
 
 -- what a record shows by itself: 2, 3, 4, or 0
 unfoldable pub shapeFault : Record → ℕ
-shapeFault r = cond (wrongMark r) 2 (cond (badKind r) 3 (cond (badFields r) 4 0))
-
--- the first n of the blocks that are kept, innermost first
-abbrev pub stackOf : ℕ → List ℕ → List ℕ
-stackOf zero xs = []
-stackOf (suc n) xs = getD xs n 0 ∷ stackOf n xs
+shapeFault r = firstFrom 2 (wrongMark r ∷ badKind r ∷ badFields r ∷ [])
 
 -- there is room for 16 blocks, and no more are open
 pub record Kept (blocks : List ℕ) (depth : ℕ) : Type 0 where
@@ -30,7 +26,7 @@ full depth kind = (eqb kind 4 || eqb kind 5) && leb 16 depth
 
 -- what a record shows by its place, but for the repeats around it: 5, 6, or 0
 unfoldable pub placeFault : List ℕ → ℕ → ℕ
-placeFault blocks kind = cond (misplaced blocks kind) 5 (cond (full (length blocks) kind) 6 0)
+placeFault blocks kind = firstFrom 5 (misplaced blocks kind ∷ full (length blocks) kind ∷ [])
 
 -- a refusal has no words
 abbrev pub scanned : Refusal → ℕ → Found

@@ -5,6 +5,8 @@ ghost use mathlib.Core.Bool.{cond};
 ghost use Prim.Native.Nat.{_≤_, _/_};
 ghost use lib.Dec.{eqb};
 ghost use lib.ListN.{length};
+ghost use Rattle.lists.specs.Stack.{stackOf};
+ghost use Rattle.record.specs.Record.{recordSize};
 ghost use Rattle.script.specs.Fields.{valueFields, readFields, countFields, noFields};
 ghost use Rattle.script.specs.Refusals.{badLength, goodFields, innermost, misplaced, openAfter, givesWord};
 ghost use Rattle.script.specs.Scan.{
@@ -15,7 +17,6 @@ ghost use Rattle.script.specs.Scan.{
   refusedAt,
   scriptScan,
   shapeFault,
-  stackOf,
 };
 
 // What a scan finds: a refusal with its place, or number 0 and how many words the script gives.
@@ -263,7 +264,7 @@ fn refused(number: u32, place: usize) -> Found
 
 // Refusals 2 to 7, or how many words the records give.
 fn scan_records(script: &[u8], count: usize) -> Found
-    requires { ⌜ (count ≤ 1024) × (count ≡ length (now script) / 12) ⌝ }
+    requires { ⌜ (count ≤ 1024) × (count ≡ length (now script) / recordSize) ⌝ }
     ensures { λ r. ⌜ r ≡ recordsScan (now (script .entry)) ⌝ }
 {
     let mut blocks: [u8; 16] = [0; 16];
@@ -272,7 +273,7 @@ fn scan_records(script: &[u8], count: usize) -> Found
     let mut number: u32 = 0;
     let mut k: usize = 0;
     'scan: while k < count {
-        let r = record::read(script, 12 * k);
+        let r = record::read(script, Record::SIZE * k);
         let kind = r.kind;
         number = shape_fault(r);
         if number != 0 {
@@ -317,10 +318,10 @@ fn scan_records(script: &[u8], count: usize) -> Found
 fn bad_length(script: &[u8]) -> bool
     ensures { λ r. ⌜ r ≡ badLength (now (script .entry)) ⌝ }
 {
-    if script.len() % 12 != 0 {
+    if script.len() % Record::SIZE != 0 {
         return true;
     }
-    1024 < script.len() / 12
+    1024 < script.len() / Record::SIZE
 }
 
 // Refusals 1 to 8, or how many words the script gives.
@@ -330,7 +331,7 @@ pub fn scan(script: &[u8]) -> Found
     if bad_length(script) {
         return refused(1, 0);
     }
-    let count = script.len() / 12;
+    let count = script.len() / Record::SIZE;
     let s = scan_records(script, count);
     if s.number != 0 {
         return s;

@@ -15,14 +15,14 @@ abbrev μ-loop : tie.MeasureT-loop
 μ-loop script count targets₀ waiting₀ starts₀ depth₀ place₀ k₀ targets waiting starts depth place k = count - k
 
 -- a turn, once the kind of its record is read
-turn : (c : tie.After-kind-of Inv-loop μ-loop)
+turn : (c : tie.After-kind-at Inv-loop μ-loop)
     → let l = c .before .before .loop in
     Turn (c .before .before .before .before .args .script .now) (c .before .before .before .before .args .count) (l .targets) (l .waiting) (l .starts) (l .depth) (l .place) (l .k)
-    (c .kind-of .result)
+    (c .kind-at .result)
 turn c = record {
   filling = c .before .before .loop .inv;
   within = c .before .loop-test .taken;
-  kind-is = c .kind-of .ensures;
+  kind-is = c .kind-at .ensures;
 }
 
 -- there is room where a block opens
@@ -40,8 +40,11 @@ has-record c = waits-before (turn (c .before .before)) (has-block c)
 loop-holds : tie.Need-loop-holds Inv-loop μ-loop
 loop-holds c = begins _ _ _ _ _ (c .before .pre .0 .0) (c .before .pre .0 .1) (c .before .pre .1) refl refl
 
-kind-of-requires : tie.Need-kind-of-requires Inv-loop μ-loop
-kind-of-requires c κs = omega arith
+mul-kind-at : tie.Need-mul-kind-at Inv-loop μ-loop
+mul-kind-at c = omega arith
+
+kind-at-requires : tie.Need-kind-at-requires Inv-loop μ-loop
+kind-at-requires c κs = omega arith
 
 add-behind : tie.Need-add-behind Inv-loop μ-loop
 add-behind c = omega arith
@@ -157,7 +160,8 @@ fill-targets-spec =
     Inv-loop
     μ-loop
     loop-holds
-    kind-of-requires
+    mul-kind-at
+    kind-at-requires
     add-behind
     add-next
     mul-waiting

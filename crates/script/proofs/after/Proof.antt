@@ -1,14 +1,15 @@
 -- `script::after` meets its contract. Assumes nothing.
-use mathlib.Core.Path.{_≡_}
+use mathlib.Core.Path.{_≡_, refl}
 use mathlib.Core.Bool.{false}
 use native.Mathlib.Omega.{arith}
 use lib.ListN.{length-set}
 use borrow.Author.Needs.{needs}
 use borrow.Author.Tests.{leb-false, ne-eqb}
+use Rattle.lists.specs.Stack.{stackOf}
 use Rattle.script.specs.Refusals.{misplaced}
-use Rattle.script.specs.Scan.{full, stackOf}
+use Rattle.script.specs.Scan.{full}
 use Rattle.script.proofs.Scanning.{placed}
-use Rattle.script.proofs.Stack.{else-inside, end-inside, opens, stack-else, stack-pop}
+use Rattle.script.proofs.Blocks.{elses, ends, inside, opens}
 use Rattle.script.proofs.after.Statement.{statement}
 use Rattle.script.proofs.after.Tie as tie
 
@@ -41,7 +42,7 @@ returns-2 c =
     rw (c .if2 .taken) (opens (s .args .blocks .now) (s .args .depth) 5 (s .pre .0) (element-write-blocks-2 c))
 
 sub-blocks : tie.Need-sub-blocks
-sub-blocks c = else-inside _ _ (rw (c .if3 .taken) at (misplaced-not (c .before .before .before)))
+sub-blocks c = inside (c .before .before .before .args .blocks .now) _ 6 refl (rw (c .if3 .taken) at (misplaced-not (c .before .before .before)))
 
 element-write-blocks-3 : tie.Need-element-write-blocks-3
 element-write-blocks-3 c = search needs
@@ -51,18 +52,18 @@ returns-3 c =
     let s = c .before .before .before in
     let k = s .pre .0 in (
       record { deep = k .deep; sized = simp length-set (k .sized) },
-      rw (c .if3 .taken) (stack-else (s .args .depth) (s .args .blocks .now) 6 (sub-blocks c) (omega (arith, k .deep, k .sized))),
+      rw (c .if3 .taken) (elses (s .args .blocks .now) (s .args .depth) 6 (sub-blocks c) (omega (arith, k .deep, k .sized))),
     )
 
 sub-result : tie.Need-sub-result
-sub-result c = end-inside _ _ (rw (c .if4 .taken) at (misplaced-not (c .before .before .before .before)))
+sub-result c = inside (c .before .before .before .before .args .blocks .now) _ 7 refl (rw (c .if4 .taken) at (misplaced-not (c .before .before .before .before)))
 
 returns-4 : tie.Need-returns-4
 returns-4 c =
     let s = c .before .before .before .before in
     let k = s .pre .0 in (
       record { deep = omega (arith, k .deep); sized = k .sized },
-      rw (c .if4 .taken) (stack-pop (s .args .depth) (s .args .blocks .now) (sub-result c)),
+      rw (c .if4 .taken) (ends (s .args .blocks .now) (s .args .depth) (sub-result c)),
     )
 
 returns-5 : tie.Need-returns-5

@@ -1,7 +1,7 @@
 -- `script::innermost` meets its contract. Assumes nothing.
 use Prim.Native.Nat.{_<_}
 use native.Mathlib.Omega.{arith}
-use Rattle.script.proofs.Stack.{stack-top}
+use Rattle.lists.proofs.Stack.{stack-top}
 use borrow.Author.Needs.{needs}
 use Rattle.script.proofs.innermost.Statement.{statement}
 use Rattle.script.proofs.innermost.Tie as tie

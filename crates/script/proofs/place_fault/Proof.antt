@@ -1,6 +1,6 @@
 -- `script::place_fault` meets its contract. Assumes nothing.
 use mathlib.Core.Path.{sym, _∙_}
-use Rattle.script.proofs.Scanning.{length-stack}
+use Rattle.lists.proofs.Stack.{stack-length}
 use Rattle.script.specs.Scan.{placeFault}
 use borrow.Author.Needs.{needs}
 use Rattle.script.proofs.place_fault.Statement.{statement}
@@ -20,7 +20,7 @@ returns-2 : tie.Need-returns-2
 unfolding placeFault
 returns-2 c = rw (
   sym (c .before .before .before .is-misplaced .ensures) ∙ c .before .before .if1 .left,
-  length-stack,
+  stack-length,
   sym (c .before .is-full .ensures) ∙ c .if2 .taken,
 )
 
@@ -28,7 +28,7 @@ returns-3 : tie.Need-returns-3
 unfolding placeFault
 returns-3 c = rw (
   sym (c .before .before .before .is-misplaced .ensures) ∙ c .before .before .if1 .left,
-  length-stack,
+  stack-length,
   sym (c .before .is-full .ensures) ∙ c .if2 .left,
 )
 

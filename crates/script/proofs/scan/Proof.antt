@@ -1,6 +1,7 @@
 -- `script::scan` meets its contract. Assumes nothing.
 use mathlib.Core.Path.{refl, sym, _∙_}
-use Rattle.script.proofs.Scanning.{few-records, scan-length, scan-long, scan-refused, scan-whole}
+use Rattle.script.proofs.Records.{few-records}
+use Rattle.script.proofs.Scanning.{scan-length, scan-long, scan-refused, scan-whole}
 use borrow.Author.Needs.{needs}
 use Rattle.script.proofs.scan.Statement.{statement}
 use Rattle.script.proofs.scan.Tie as tie

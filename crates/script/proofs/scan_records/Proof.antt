@@ -8,6 +8,7 @@ use native.Mathlib.Omega.{arith}
 use borrow.Author.Needs.{needs}
 use lib.Dec.{eqb}
 use lib.ListN.{getD}
+use Rattle.lists.specs.Stack.{stackOf}
 use Rattle.script.proofs.Scanning.{
   anywhere,
   at-most-one,
@@ -28,7 +29,7 @@ use Rattle.script.proofs.Scanning.{
 }
 use Rattle.script.specs.Records.{recordsFrom}
 use Rattle.script.specs.Refusals.{firstFault, givesWord, recordFault, refusal, repeatsIn}
-use Rattle.script.specs.Scan.{placeFault, stackOf}
+use Rattle.script.specs.Scan.{placeFault}
 use Rattle.script.proofs.scan_records.Statement.{statement}
 use Rattle.script.proofs.scan_records.Tie as tie
 

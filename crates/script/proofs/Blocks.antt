@@ -1,0 +1,34 @@
+-- The open blocks as an array and a depth: opening a block pushes it, an else changes the innermost one, and an end takes it
+-- away. Assumes nothing.
+use Prim.Native.Nat.{ℕ, zero, suc, _+_, _-_, _≤_, _<_}
+use mathlib.Core.Path.{_≡_, sym, ap, _∙_}
+use mathlib.Core.Bool.{true, false}
+use mathlib.Core.List.{List, [], _∷_}
+use native.Mathlib.Omega.{arith}
+use lib.ListN.{length, set, length-set}
+use Rattle.lists.specs.Stack.{stackOf}
+use Rattle.lists.proofs.Stack.{stack-push, stack-set-top, stack-top}
+use Rattle.script.specs.Refusals.{misplaced, outer}
+use Rattle.script.specs.Scan.{Kept}
+
+-- a block opened inside fewer than 16 is kept
+pub opens : (blocks : List ℕ) (depth block : ℕ) → Kept blocks depth → depth < 16
+    → Kept (set blocks depth block) (depth + 1) × (stackOf (depth + 1) (set blocks depth block) ≡ block ∷ stackOf depth blocks)
+opens blocks depth block k h = (
+  record { deep = omega arith; sized = simp length-set (k .sized) },
+  stack-push depth blocks block (omega (arith, k .sized)),
+)
+
+pub ends : (blocks : List ℕ) (depth : ℕ) → 0 < depth → stackOf (depth - 1) blocks ≡ outer (stackOf depth blocks)
+ends blocks depth h = sym (ap outer (stack-top depth blocks h))
+
+pub elses :
+    (blocks : List ℕ) (depth block : ℕ) → 0 < depth → depth ≤ length blocks
+    → stackOf depth (set blocks (depth - 1) block) ≡ block ∷ outer (stackOf depth blocks)
+elses blocks depth block h l = stack-set-top depth blocks block h l ∙ ap (_∷_ block) (ends blocks depth h)
+
+-- a record that has no place outside all blocks, as an else or an end, stands inside one if it is well placed
+pub inside : (blocks : List ℕ) (depth kind : ℕ) → misplaced [] kind ≡ true → misplaced (stackOf depth blocks) kind ≡ false
+    → 0 < depth
+inside blocks zero kind t f = let z : _≡_ {A = ℕ} 0 1 = cc in absurd (omega arith)
+inside blocks (suc n) kind t f = omega arith

@@ -1,0 +1,36 @@
+-- The records of a script from a place on, as a loop meets them; how many there are, and where they lie. Assumes nothing.
+use Prim.Native.Nat.{ℕ, suc, _+_, _-_, _*_, _%_, _≤_, _<_}
+use mathlib.Core.Path.{_≡_}
+use mathlib.Core.Bool.{false, not}
+use mathlib.Core.List.{List, [], _∷_}
+use native.Mathlib.Numerals.{add-one}
+use native.Mathlib.Omega.{arith}
+use borrow.Author.Tests.{ltb-false}
+use lib.Dec.{eqb, ltb}
+use lib.ListN.{length}
+use Rattle.mask.proofs.Every.{neither}
+use Rattle.record.specs.Record.{recordAt, recordSize}
+use Rattle.script.specs.Records.{recordCount, recordsFrom}
+use Rattle.script.specs.Refusals.{badLength, scriptRefusal}
+use Rattle.script.proofs.Flat.{accepts}
+
+-- record k, and the rest
+pub from-here : (bytes : List ℕ) (count k : ℕ) → k < count
+    → recordsFrom (count - k) k bytes ≡ recordAt bytes (recordSize * k) ∷ recordsFrom (count - (k + 1)) (k + 1) bytes
+from-here bytes count k h =
+    let e : count - k ≡ suc (count - suc k) = omega arith in
+    rw (e, add-one k)
+
+pub behind-last : (bytes : List ℕ) (count k : ℕ) → count ≤ k → recordsFrom (count - k) k bytes ≡ []
+behind-last bytes count k h =
+    let e : count - k ≡ 0 = omega arith in
+    rw e
+
+pub few-records : (bytes : List ℕ) → badLength bytes ≡ false → recordCount bytes ≤ 1024
+few-records bytes h = ltb-false 1024 (recordCount bytes) (neither (not (eqb (length bytes % recordSize) 0)) _ h .1)
+
+pub counts : (script : List ℕ) (count : ℕ) → count ≡ recordCount script → scriptRefusal script .number ≡ 0
+    → (count ≤ 1024) × (recordSize * count ≤ length script)
+counts script count e h =
+    let l = few-records script (accepts script h .length-good) in
+    (omega arith, omega arith)
