@@ -1,0 +1,46 @@
+-- `key::Key::read` meets its contract: blocked under read-lock, else the byte. Assumes nothing.
+use borrow.Author.Needs.{needs}
+use Rattle.key.specs.Key.{keyRead}
+use Rattle.key.proofs.Key.read.Statement.{statement}
+use Rattle.key.proofs.Key.read.Tie as tie
+
+has-requires : tie.Need-has-requires
+has-requires c κs = search needs
+
+status-requires : tie.Need-status-requires
+status-requires c κs = search needs
+
+returns : tie.Need-returns
+unfolding keyRead
+returns c = rw (← (c .before .before .has .ensures), c .before .if1 .taken) (c .status .ensures)
+
+element-copy-out-value : tie.Need-element-copy-out-value
+element-copy-out-value c = search needs
+
+wide8-requires : tie.Need-wide8-requires
+wide8-requires c κs = search needs
+
+done-requires : tie.Need-done-requires
+done-requires c κs = search needs
+
+returns-2 : tie.Need-returns-2
+unfolding keyRead
+returns-2 c =
+    rw (
+      ← (c .before .before .before .before .has .ensures),
+      c .before .before .before .if1 .left,
+      c .done .ensures,
+      c .before .wide8 .ensures,
+    )
+
+pub read-spec : {M : Type 1} → statement M
+read-spec =
+    tie.close
+    (tie.spec
+    has-requires
+    status-requires
+    returns
+    element-copy-out-value
+    wide8-requires
+    done-requires
+    returns-2)

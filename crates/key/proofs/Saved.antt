@@ -1,0 +1,20 @@
+-- The key bytes that are saved are the ones that are loaded, and bytes are saved as they were loaded. Assumes nothing.
+use Prim.Native.Nat.{ℕ}
+use mathlib.Core.Path.{_≡_, ap}
+use mathlib.Core.List.{List}
+use lib.ListN.{length}
+use Rattle.lists.proofs.Slice.{slice-length, slice-whole}
+use Rattle.key.specs.Saved.{keyBytes, keyFrom}
+use Rattle.key.specs.declared.Key.{Key}
+
+pub record Typed (k : Key) : Type 0 where
+  pub bytes : length (k .bytes) ≡ 32
+
+pub bytes-length : (k : Key) → length (keyBytes k) ≡ 32
+bytes-length k = slice-length 0 32 0 (k .bytes)
+
+pub load-back : (k : Key) → Typed k → keyFrom (keyBytes k) ≡ k
+load-back k t = ap keyFrom (slice-whole 0 32 (k .bytes) (t .bytes))
+
+pub save-back : (bytes : List ℕ) → length bytes ≡ 32 → keyBytes (keyFrom bytes) ≡ bytes
+save-back bytes n = slice-whole 0 32 bytes n

@@ -1,0 +1,37 @@
+-- Document 01, "Configuration and key": the 32 key bytes, under the read-lock and the write-lock of key control.
+use Prim.Native.Nat.{ℕ, _%_}
+use mathlib.Core.Bool.{Bool, cond}
+use lib.Dec.{eqb, ltb}
+use lib.ListN.{getD, set, replicate}
+use Rattle.access.specs.declared.Access.{Access}
+use Rattle.access.specs.Block.{Result, result, status}
+use Rattle.access.specs.Status.{done}
+use Rattle.mask.specs.Mask.{hasBit}
+use Rattle.key.specs.declared.Key.{Key}
+
+abbrev pub freshKey : Key
+freshKey = record { bytes = replicate 32 0 }
+
+-- "Reset 3 also key bytes [..] 0"
+abbrev pub keyReset : Key → ℕ → Key
+keyReset k level = cond (ltb level 3) k freshKey
+
+-- "Blocks 1, 3 and 4 take width 1 only, else status 1."
+abbrev pub takes : ℕ → Bool
+takes width = eqb width 1
+
+-- "Key control: bit 2 write-lock, bit 1 read-lock, bit 0 lock. [..] A key read under read-lock and a key write under
+-- write-lock have status 2."
+unfoldable pub keyRead : Key → ℕ → ℕ → Result Key
+keyRead k control offset = cond (hasBit 0x02 control) (status 2 k) (result (done (getD (k .bytes) offset 0)) k)
+
+unfoldable pub keyWrite : Key → ℕ → ℕ → ℕ → Result Key
+keyWrite k control offset v =
+    cond (hasBit 0x04 control) (status 2 k) (status 0 (record { bytes = set (k .bytes) offset v }))
+
+-- an access to the key byte at an offset, with key control as it is in the configuration
+unfoldable pub keyAccess : Key → ℕ → ℕ → Access → Result Key
+keyAccess k control offset x =
+    cond (takes (x .width))
+    (cond (x .write) (keyWrite k control offset (x .value % 256)) (keyRead k control offset))
+    (status 1 k)

@@ -1,0 +1,11 @@
+-- docs/STATE.md: the saved form of the key is its 32 bytes in order. Every byte is a key byte, so none is refused.
+use Prim.Native.Nat.{ℕ}
+use mathlib.Core.List.{List}
+use Rattle.lists.specs.Slice.{slice}
+use Rattle.key.specs.declared.Key.{Key}
+
+abbrev pub keyBytes : Key → List ℕ
+keyBytes k = slice 0 32 0 (k .bytes)
+
+abbrev pub keyFrom : List ℕ → Key
+keyFrom bytes = record { bytes = bytes }
