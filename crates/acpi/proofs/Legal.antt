@@ -15,7 +15,7 @@ use Rattle.acpi.specs.Map.{isGpeTarget, legalMap, legalTarget}
 use Rattle.acpi.specs.Settle.{pending, sciOn, smiOn}
 use Rattle.acpi.specs.declared.Acpi.{Acpi}
 
-pub or-cases : (a b : Bool) → (a || b) ≡ true → (a ≡ true) ⊎ (b ≡ true)
+or-cases : (a b : Bool) → (a || b) ≡ true → (a ≡ true) ⊎ (b ≡ true)
 or-cases true b e = inl refl
 or-cases false b e = inr e
 

@@ -53,10 +53,9 @@ abbrev pub mapInRange : List ℕ → ℕ → Bool
 mapInRange maps k = legalMap (getD maps k 0)
 
 -- GPE0_STS and GPE0_EN take all 16 bits
-unfoldable pub acpiInRange : Acpi → Bool
-acpiInRange a =
-    allHold
-    (within 0x17 (a .pcnt)
+abbrev pub rangeTests : Acpi → List Bool
+rangeTests a =
+    within 0x17 (a .pcnt)
     ∷ isCpuState (a .cpu)
     ∷ within 0x8F31 (a .pm1sts)
     ∷ within 0x0721 (a .pm1en)
@@ -65,7 +64,10 @@ acpiInRange a =
     ∷ leb (a .irq) 15
     ∷ ltb (a .timer) (2 ^ 24)
     ∷ allBelow 8 (mapInRange (a .maps))
-    ∷ [])
+    ∷ []
+
+unfoldable pub acpiInRange : Acpi → Bool
+acpiInRange a = allHold (rangeTests a)
 
 -- ---- accesses, events and settling
 -- "any other offset or width in the range is status 1"

@@ -17,20 +17,16 @@ abbrev pub levelBytes : ℕ → ℕ → List Bool → List ℕ
 levelBytes zero pin levels = []
 levelBytes (suc n) pin levels = flagByte (getD levels pin false) ∷ levelBytes n (suc pin) levels
 
--- 0 to 15
-abbrev pub registerBytes : Acpi → List ℕ
-registerBytes a =
-    a .pcnt ∷ a .cpu ∷ flagByte (a .scien)
-    ∷ twoBytes (a .pm1sts) ++ (twoBytes (a .pm1en) ++ (twoBytes (a .pm1cnt)
-    ++ (flagByte (a .sleeping)
-    ∷ twoBytes (a .setupidx) ++ (twoBytes (a .gpe0sts) ++ twoBytes (a .gpe0en)))))
-
--- 32 to 36
-abbrev pub timerBytes : Acpi → List ℕ
-timerBytes a = a .irq ∷ fourBytes (a .timer)
-
 abbrev pub acpiBytes : Acpi → List ℕ
-acpiBytes a = registerBytes a ++ (mapBytes 8 0 (a .maps) ++ (timerBytes a ++ levelBytes 8 0 (a .levels)))
+acpiBytes a =
+    (a .pcnt ∷ a .cpu ∷ flagByte (a .scien) ∷ twoBytes (a .pm1sts))
+    ++ (twoBytes (a .pm1en)
+    ++ (twoBytes (a .pm1cnt)
+    ++ (flagByte (a .sleeping)
+    ∷ (twoBytes (a .setupidx)
+    ++ (twoBytes (a .gpe0sts)
+    ++ (twoBytes (a .gpe0en)
+    ++ (mapBytes 8 0 (a .maps) ++ (a .irq ∷ (fourBytes (a .timer) ++ levelBytes 8 0 (a .levels))))))))))
 
 -- ---- bytes as the block
 abbrev pub mapsFrom : ℕ → ℕ → List ℕ → List ℕ

@@ -1,14 +1,14 @@
 // The ACPI event block: document 01, "ACPI block". A register is named by its offset from the block's first port.
-pub mod map;
+mod bytes;
+mod map;
 mod registers;
-mod saved;
 mod setup;
 
 use access::Access;
 use access::Answer;
 ghost use mathlib.Core.Path.{_≡_};
 ghost use Prim.Native.Nat.{_<_};
-ghost use Rattle.access.specs.Block.{result};
+ghost use Rattle.access.specs.Block.{result, status};
 ghost use Rattle.mask.specs.Every.{allBelow};
 ghost use Rattle.acpi.specs.Acpi.{
   freshAcpi,
@@ -51,6 +51,21 @@ pub struct Acpi {
 pub struct AccessResult {
     pub answer: Answer,
     pub block: Acpi,
+}
+
+impl AccessResult {
+    // An answer that is a status alone.
+    fn status(number: u32, block: Acpi) -> Self
+        ensures { λ r. ⌜ result (r .answer) (r .block) ≡ status number block ⌝ }
+    {
+        AccessResult {
+            answer: Answer {
+                status: number,
+                value: 0,
+            },
+            block,
+        }
+    }
 }
 
 impl Acpi {
@@ -276,10 +291,7 @@ impl Acpi {
             }
             return self.register_read(offset);
         }
-        AccessResult {
-            answer: Answer::status_only(Answer::UNCLAIMED),
-            block: self,
-        }
+        AccessResult::status(Answer::UNCLAIMED, self)
     }
 }
 

@@ -1,7 +1,7 @@
 // Reads and writes of the registers, by their offset.
 use access::Answer;
 ghost use mathlib.Core.Path.{_≡_};
-ghost use Rattle.access.specs.Block.{result, status};
+ghost use Rattle.access.specs.Block.{result};
 ghost use Rattle.acpi.specs.Registers.{
   controlRead,
   registerValue,
@@ -10,23 +10,8 @@ ghost use Rattle.acpi.specs.Registers.{
   controlWrite,
   registerWrite,
 };
-use crate::Acpi;
 use crate::AccessResult;
-
-impl AccessResult {
-    // A write's answer, which is a status alone.
-    pub fn write(number: u32, block: Acpi) -> Self
-        ensures { λ r. ⌜ result (r .answer) (r .block) ≡ status number block ⌝ }
-    {
-        AccessResult {
-            answer: Answer {
-                status: number,
-                value: 0,
-            },
-            block,
-        }
-    }
-}
+use crate::Acpi;
 
 impl Acpi {
     // PM1a_CNT reads SCI_EN in bit 0.
@@ -56,8 +41,8 @@ impl Acpi {
         }
     }
 
-    // A read of P_LVL2 or P_LVL3 puts the CPU state.
-    pub fn register_read(mut self, offset: u32) -> AccessResult
+    // A read of P_LVL2 or P_LVL3 sets the CPU state.
+    pub(crate) fn register_read(mut self, offset: u32) -> AccessResult
         ensures { λ r. ⌜ result (r .answer) (r .block) ≡ registerRead self offset ⌝ }
     {
         match offset {
@@ -93,13 +78,13 @@ impl Acpi {
         match value {
             1 => {
                 self.scien = true;
-                AccessResult::write(Answer::DONE, self)
+                AccessResult::status(Answer::DONE, self)
             }
             2 => {
                 self.scien = false;
-                AccessResult::write(Answer::DONE, self)
+                AccessResult::status(Answer::DONE, self)
             }
-            _ => AccessResult::write(Answer::IGNORED, self),
+            _ => AccessResult::status(Answer::IGNORED, self),
         }
     }
 
@@ -110,40 +95,40 @@ impl Acpi {
         self.pm1cnt = mask::masked16(value, Acpi::PM1CNT_MASK);
         if value & Acpi::SLP_EN != 0 {
             self.sleeping = true;
-            return AccessResult::write(Answer::DONE, self);
+            return AccessResult::status(Answer::DONE, self);
         }
-        AccessResult::write(Answer::DONE, self)
+        AccessResult::status(Answer::DONE, self)
     }
 
-    pub fn register_write(mut self, offset: u32, value: u32) -> AccessResult
+    pub(crate) fn register_write(mut self, offset: u32, value: u32) -> AccessResult
         ensures { λ r. ⌜ result (r .answer) (r .block) ≡ registerWrite self offset value ⌝ }
     {
         match offset {
             0 => {
                 self.pcnt = mask::masked8(value, Acpi::PCNT_MASK);
-                AccessResult::write(Answer::DONE, self)
+                AccessResult::status(Answer::DONE, self)
             }
             6 => self.command_write(value),
             8 => {
                 self.pm1sts = mask::cleared16(self.pm1sts, mask::masked16(value, Acpi::ALL));
-                AccessResult::write(Answer::DONE, self)
+                AccessResult::status(Answer::DONE, self)
             }
             10 => {
                 self.pm1en = mask::masked16(value, Acpi::PM1EN_MASK);
-                AccessResult::write(Answer::DONE, self)
+                AccessResult::status(Answer::DONE, self)
             }
             12 => self.control_write(value),
             14 => self.setup_index_write(value),
             16 => {
                 self.gpe0sts = mask::cleared16(self.gpe0sts, mask::masked16(value, Acpi::ALL));
-                AccessResult::write(Answer::DONE, self)
+                AccessResult::status(Answer::DONE, self)
             }
             18 => {
                 self.gpe0en = mask::masked16(value, Acpi::ALL);
-                AccessResult::write(Answer::DONE, self)
+                AccessResult::status(Answer::DONE, self)
             }
             20 => self.setup_write(value),
-            _ => AccessResult::write(Answer::BLOCKED, self),
+            _ => AccessResult::status(Answer::BLOCKED, self),
         }
     }
 }

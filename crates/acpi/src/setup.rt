@@ -11,31 +11,28 @@ ghost use Rattle.acpi.specs.Setup.{
   irqWrite,
   setupWrite,
 };
-use crate::Acpi;
 use crate::AccessResult;
+use crate::Acpi;
 use crate::map;
 
 pub fn is_setup_index(index: u32) -> bool
     ensures { λ r. ⌜ r ≡ isSetupIndex index ⌝ }
 {
-    (index == 0x00)
-        | ((0x10 <= index) & (index <= 0x17))
-        | (index == 0x40)
-        | (index == 0x41)
+    (index == 0x00) | ((0x10 <= index) & (index <= 0x17)) | (index == 0x40) | (index == 0x41)
 }
 
 impl Acpi {
-    pub fn setup_index_write(mut self, value: u32) -> AccessResult
+    pub(crate) fn setup_index_write(mut self, value: u32) -> AccessResult
         ensures { λ r. ⌜ result (r .answer) (r .block) ≡ setupIndexWrite self value ⌝ }
     {
         if is_setup_index(value) {
             self.setupidx = value as u16;
-            return AccessResult::write(Answer::DONE, self);
+            return AccessResult::status(Answer::DONE, self);
         }
-        AccessResult::write(Answer::IGNORED, self)
+        AccessResult::status(Answer::IGNORED, self)
     }
 
-    pub fn setup_read(self) -> Answer
+    pub(crate) fn setup_read(self) -> Answer
         ensures { λ r. ⌜ r ≡ setupRead self ⌝ }
     {
         let index = self.setupidx;
@@ -58,9 +55,9 @@ impl Acpi {
     {
         if map::is_legal(value) {
             self.maps[pin] = value as u16;
-            return AccessResult::write(Answer::DONE, self);
+            return AccessResult::status(Answer::DONE, self);
         }
-        AccessResult::write(Answer::IGNORED, self)
+        AccessResult::status(Answer::IGNORED, self)
     }
 
     fn irq_write(mut self, value: u32) -> AccessResult
@@ -68,21 +65,21 @@ impl Acpi {
     {
         if value <= Acpi::IRQ_LAST {
             self.irq = value as u8;
-            return AccessResult::write(Answer::DONE, self);
+            return AccessResult::status(Answer::DONE, self);
         }
-        AccessResult::write(Answer::IGNORED, self)
+        AccessResult::status(Answer::IGNORED, self)
     }
 
-    pub fn setup_write(self, value: u32) -> AccessResult
+    pub(crate) fn setup_write(self, value: u32) -> AccessResult
         ensures { λ r. ⌜ result (r .answer) (r .block) ≡ setupWrite self value ⌝ }
     {
         let index = self.setupidx;
         match index {
-            0x00 => AccessResult::write(Answer::IGNORED, self),
+            0x00 => AccessResult::status(Answer::IGNORED, self),
             0x10..=0x17 => self.map_write((index - 0x10) as usize, value),
-            0x40 => AccessResult::write(Answer::DONE, self.raise(Acpi::GBL_STS)),
+            0x40 => AccessResult::status(Answer::DONE, self.raise(Acpi::GBL_STS)),
             0x41 => self.irq_write(value),
-            _ => AccessResult::write(Answer::UNDEFINED, self),
+            _ => AccessResult::status(Answer::UNDEFINED, self),
         }
     }
 }

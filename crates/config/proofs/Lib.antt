@@ -1,2 +1,3 @@
+pub mod Orderly
 pub mod Range
-pub mod Unchanged
+pub mod Saved

@@ -1,62 +1,76 @@
--- The fresh configuration is in range, and every write leaves it so: activate and key control are stored masked, the
--- other registers take any value. Assumes nothing.
-use Prim.Native.Nat.{ℕ}
+-- The fresh configuration is in range, and every reset and access leaves it so: activate and key control are stored masked,
+-- the other registers take any value. Assumes nothing.
+use Prim.Native.Nat.{ℕ, _%_}
 use mathlib.Core.Path.{_≡_, refl}
 use mathlib.Core.Bool.{true}
 use lib.Bits.{bitAnd}
 use lib.Dec.{eqb}
+use Rattle.access.specs.Block.{Result}
+use Rattle.access.specs.declared.Access.{Access}
 use Rattle.mask.proofs.Branch.{branch}
 use Rattle.mask.proofs.Every.{and-both, and-left, and-right}
 use Rattle.mask.proofs.Mask.{within-masked}
-use Rattle.mask.specs.Mask.{within}
+use Rattle.mask.specs.Mask.{hasBit, within}
 use Rattle.config.specs.Config.{
-  configDataWritten,
+  configAccess,
   configInRange,
-  configIndexWritten,
-  controlWritten,
+  configReset,
+  controlWrite,
+  dataWrite,
   freshConfig,
-  registerWritten,
+  indexWrite,
+  registerWrite,
+  takes,
 }
 use Rattle.config.specs.declared.Config.{Config}
-use Rattle.config.specs.declared.Written.{Written}
 
--- the configuration after a write is in range
-abbrev Kept : Written → Type 0
-Kept w = configInRange (w .config) ≡ true
-
-pub fresh-config : configInRange freshConfig ≡ true
+pub fresh-in-range : configInRange freshConfig ≡ true
 unfolding configInRange
-fresh-config = refl
+fresh-in-range = refl
 
-module _ (g : Config) (v : ℕ) (h : configInRange g ≡ true) where
-  pub config-index-written : configInRange (configIndexWritten g v .config) ≡ true
-  unfolding configIndexWritten configInRange
-  config-index-written =
-      branch Kept (g .unlocked) (branch Kept (eqb v 0xAA) h h) (branch Kept (eqb v 0x55) h h)
+pub reset-in-range : (g : Config) (level : ℕ) → configInRange g ≡ true → configInRange (configReset g level) ≡ true
+reset-in-range g level h = fresh-in-range
 
-  control-written : Kept (controlWritten g v)
-  unfolding controlWritten configInRange
-  control-written =
-      branch Kept (eqb (bitAnd (g .control) 0x01) 0)
+-- the configuration after an access is in range
+abbrev Kept : Result Config → Type 0
+Kept r = configInRange (r .block) ≡ true
+
+module _ (g : Config) (h : configInRange g ≡ true) where
+  index-write : (v : ℕ) → Kept (indexWrite g v)
+  unfolding indexWrite configInRange
+  index-write v = branch Kept (g .unlocked) (branch Kept (eqb v 0xAA) h h) (branch Kept (eqb v 0x55) h h)
+
+  control-write : (v : ℕ) → Kept (controlWrite g v)
+  unfolding controlWrite configInRange
+  control-write v =
+      branch Kept (hasBit 0x01 (g .control)) h
       (and-both (within 0x01 (g .activate)) (within 0x07 (bitAnd v 0x07))
-      (and-left (within 0x01 (g .activate)) (within 0x07 (g .control)) h)
-      (within-masked 0x07 v))
-      h
+      (and-left (within 0x01 (g .activate)) (within 0x07 (g .control)) h) (within-masked 0x07 v))
 
-  register-written : Kept (registerWritten g v)
-  unfolding registerWritten configInRange
-  register-written =
+  register-write : (v : ℕ) → Kept (registerWrite g v)
+  unfolding registerWrite configInRange
+  register-write v =
       branch Kept (eqb (g .index) 0x30)
       (and-both (within 0x01 (bitAnd v 0x01)) (within 0x07 (g .control)) (within-masked 0x01 v)
       (and-right (within 0x01 (g .activate)) (within 0x07 (g .control)) h))
       (branch Kept (eqb (g .index) 0x60) h
       (branch Kept (eqb (g .index) 0x61) h
       (branch Kept (eqb (g .index) 0x62) h
-      (branch Kept (eqb (g .index) 0x63) h (branch Kept (eqb (g .index) 0xF2) control-written h)))))
+      (branch Kept (eqb (g .index) 0x63) h (branch Kept (eqb (g .index) 0xF2) (control-write v) h)))))
 
-  pub config-data-written : configInRange (configDataWritten g v .config) ≡ true
-  unfolding configDataWritten configInRange
-  config-data-written =
+  data-write : (v : ℕ) → Kept (dataWrite g v)
+  unfolding dataWrite configInRange
+  data-write v =
       branch Kept (g .unlocked)
-      (branch Kept (eqb (g .index) 0x07) h (branch Kept (eqb (g .number) 0x0A) register-written h))
+      (branch Kept (eqb (g .index) 0x07) h (branch Kept (eqb (g .number) 0x0A) (register-write v) h))
       h
+
+pub access-in-range :
+    (g : Config) (offset : ℕ) (x : Access) → configInRange g ≡ true → configInRange (configAccess g offset x .block) ≡ true
+unfolding configAccess
+access-in-range g offset x h =
+    branch Kept (takes (x .width))
+    (branch Kept (eqb offset 0)
+    (branch Kept (x .write) (index-write g h (x .value % 256)) h)
+    (branch Kept (x .write) (data-write g h (x .value % 256)) h))
+    h

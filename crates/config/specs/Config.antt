@@ -1,164 +1,105 @@
 -- Document 01, "Configuration and key": the configuration pair and key control.
-use Prim.Native.Nat.{ℕ, _+_, _*_, _/_, _%_}
+use Prim.Native.Nat.{ℕ, _%_}
 use mathlib.Core.Bool.{Bool, true, false, cond, _&&_}
 use lib.Bits.{bitAnd}
 use lib.Dec.{eqb}
+use Rattle.access.specs.Block.{Result, result, status}
+use Rattle.access.specs.Status.{done, statusOnly}
+use Rattle.access.specs.declared.Access.{Access}
 use Rattle.access.specs.declared.Answer.{Answer}
-use Rattle.access.specs.Status.{done, bare}
-use Rattle.mask.specs.Mask.{within}
+use Rattle.mask.specs.Mask.{hasBit, within}
+use Rattle.config.specs.Base.{high, low, withHigh, withLow}
+use Rattle.config.specs.Fields.{
+  config,
+  withActivate,
+  withControl,
+  withIndex,
+  withKeyBase,
+  withNumber,
+  withRuntimeBase,
+  withUnlocked,
+}
 use Rattle.config.specs.declared.Config.{Config}
-use Rattle.config.specs.declared.Written.{Written}
 
 -- "Reset 0: configuration locked, its index, device number, bases and activate 0, key control 04h."
 abbrev pub freshConfig : Config
-freshConfig = record {
-  unlocked = false;
-  index = 0;
-  number = 0;
-  activate = 0;
-  runtime = 0;
-  key = 0;
-  control = 0x04;
-}
+freshConfig = config false 0 0 0 0 0 0x04
 
--- ---- the configuration with one field changed
-abbrev pub withUnlocked : Config → Bool → Config
-withUnlocked g b = record {
-  unlocked = b;
-  index = g .index;
-  number = g .number;
-  activate = g .activate;
-  runtime = g .runtime;
-  key = g .key;
-  control = g .control;
-}
+-- each later reset also does what reset 0 does
+abbrev pub configReset : Config → ℕ → Config
+configReset g level = freshConfig
 
-abbrev pub withIndex : Config → ℕ → Config
-withIndex g v = record {
-  unlocked = g .unlocked;
-  index = v;
-  number = g .number;
-  activate = g .activate;
-  runtime = g .runtime;
-  key = g .key;
-  control = g .control;
-}
-
-abbrev pub withNumber : Config → ℕ → Config
-withNumber g v = record {
-  unlocked = g .unlocked;
-  index = g .index;
-  number = v;
-  activate = g .activate;
-  runtime = g .runtime;
-  key = g .key;
-  control = g .control;
-}
-
-abbrev pub withActivate : Config → ℕ → Config
-withActivate g v = record {
-  unlocked = g .unlocked;
-  index = g .index;
-  number = g .number;
-  activate = v;
-  runtime = g .runtime;
-  key = g .key;
-  control = g .control;
-}
-
-abbrev pub withRuntime : Config → ℕ → Config
-withRuntime g v = record {
-  unlocked = g .unlocked;
-  index = g .index;
-  number = g .number;
-  activate = g .activate;
-  runtime = v;
-  key = g .key;
-  control = g .control;
-}
-
-abbrev pub withKey : Config → ℕ → Config
-withKey g v = record {
-  unlocked = g .unlocked;
-  index = g .index;
-  number = g .number;
-  activate = g .activate;
-  runtime = g .runtime;
-  key = v;
-  control = g .control;
-}
-
-abbrev pub withControl : Config → ℕ → Config
-withControl g v = record {
-  unlocked = g .unlocked;
-  index = g .index;
-  number = g .number;
-  activate = g .activate;
-  runtime = g .runtime;
-  key = g .key;
-  control = v;
-}
-
-abbrev pub written : ℕ → Config → Written
-written s g = record { status = s; config = g }
-
--- ---- state in range: activate (mask 01h) and key control (mask 07h); the other registers take any value
+-- "State in range: every register within its mask": activate (mask 01h) and key control (mask 07h); the others take any
+-- value
 unfoldable pub configInRange : Config → Bool
 configInRange g = within 0x01 (g .activate) && within 0x07 (g .control)
 
 -- "The bases used are masked with FF80h and FFE0h (ours)."
 abbrev pub runtimeBase : Config → ℕ
-runtimeBase g = bitAnd (g .runtime) 0xFF80
+runtimeBase g = bitAnd (g .«runtime_base») 0xFF80
 
 abbrev pub keyBase : Config → ℕ
-keyBase g = bitAnd (g .key) 0xFFE0
+keyBase g = bitAnd (g .«key_base») 0xFFE0
 
--- ---- reads. "Locked: [..] any read, and port 002Fh have status 1. Unlocked: [..] a read gives the index."
-unfoldable pub configIndexRead : Config → Answer
-configIndexRead g = cond (g .unlocked) (done (g .index)) (bare 1)
+-- ---- the index port. "Locked: 55h written to 002Eh unlocks; any other write, any read, and port 002Fh have status 1.
+-- Unlocked: AAh written to 002Eh locks; any other value, 55h too, becomes the index; a read gives the index."
+unfoldable pub indexWrite : Config → ℕ → Result Config
+indexWrite g v =
+    cond (g .unlocked)
+    (cond (eqb v 0xAA) (status 0 (withUnlocked g false)) (status 0 (withIndex g v)))
+    (cond (eqb v 0x55) (status 0 (withUnlocked g true)) (status 1 g))
 
--- "With device number 0Ah: 30h activate; 60h/61h runtime base high/low; 62h/63h key base high/low; F2h key control.
--- The rest is status 4."
+unfoldable pub indexRead : Config → Answer
+indexRead g = cond (g .unlocked) (done (g .index)) (statusOnly 1)
+
+-- ---- the registers of device 0Ah. "With device number 0Ah: 30h activate (mask 01h); 60h/61h runtime base high/low; 62h/63h
+-- key base high/low; F2h key control (mask 07h). The rest is status 4."
 unfoldable pub registerRead : Config → Answer
 registerRead g =
     cond (eqb (g .index) 0x30) (done (g .activate))
-    (cond (eqb (g .index) 0x60) (done (g .runtime / 256))
-    (cond (eqb (g .index) 0x61) (done (g .runtime % 256))
-    (cond (eqb (g .index) 0x62) (done (g .key / 256))
-    (cond (eqb (g .index) 0x63) (done (g .key % 256))
-    (cond (eqb (g .index) 0xF2) (done (g .control)) (bare 4))))))
-
--- "Data registers: 07h device number (one byte, any value)."
-unfoldable pub configDataRead : Config → Answer
-configDataRead g =
-    cond (g .unlocked)
-    (cond (eqb (g .index) 0x07) (done (g .number)) (cond (eqb (g .number) 0x0A) (registerRead g) (bare 4)))
-    (bare 1)
-
--- ---- writes. "Locked: 55h written to 002Eh unlocks; any other write [has] status 1. Unlocked: AAh written to 002Eh
--- locks; any other value, 55h too, becomes the index."
-unfoldable pub configIndexWritten : Config → ℕ → Written
-configIndexWritten g v =
-    cond (g .unlocked)
-    (cond (eqb v 0xAA) (written 0 (withUnlocked g false)) (written 0 (withIndex g v)))
-    (cond (eqb v 0x55) (written 0 (withUnlocked g true)) (written 1 g))
+    (cond (eqb (g .index) 0x60) (done (high (g .«runtime_base»)))
+    (cond (eqb (g .index) 0x61) (done (low (g .«runtime_base»)))
+    (cond (eqb (g .index) 0x62) (done (high (g .«key_base»)))
+    (cond (eqb (g .index) 0x63) (done (low (g .«key_base»)))
+    (cond (eqb (g .index) 0xF2) (done (g .control)) (statusOnly 4))))))
 
 -- "While bit 0 is set every write to F2h has status 2. A write that sets bit 0 stores bits 2 and 1 as well."
-unfoldable pub controlWritten : Config → ℕ → Written
-controlWritten g v = cond (eqb (bitAnd (g .control) 0x01) 0) (written 0 (withControl g (bitAnd v 0x07))) (written 2 g)
+unfoldable pub controlWrite : Config → ℕ → Result Config
+controlWrite g v = cond (hasBit 0x01 (g .control)) (status 2 g) (status 0 (withControl g (bitAnd v 0x07)))
 
-unfoldable pub registerWritten : Config → ℕ → Written
-registerWritten g v =
-    cond (eqb (g .index) 0x30) (written 0 (withActivate g (bitAnd v 0x01)))
-    (cond (eqb (g .index) 0x60) (written 0 (withRuntime g (v * 256 + g .runtime % 256)))
-    (cond (eqb (g .index) 0x61) (written 0 (withRuntime g (g .runtime / 256 * 256 + v)))
-    (cond (eqb (g .index) 0x62) (written 0 (withKey g (v * 256 + g .key % 256)))
-    (cond (eqb (g .index) 0x63) (written 0 (withKey g (g .key / 256 * 256 + v)))
-    (cond (eqb (g .index) 0xF2) (controlWritten g v) (written 4 g))))))
+unfoldable pub registerWrite : Config → ℕ → Result Config
+registerWrite g v =
+    cond (eqb (g .index) 0x30) (status 0 (withActivate g (bitAnd v 0x01)))
+    (cond (eqb (g .index) 0x60) (status 0 (withRuntimeBase g (withHigh (g .«runtime_base») v)))
+    (cond (eqb (g .index) 0x61) (status 0 (withRuntimeBase g (withLow (g .«runtime_base») v)))
+    (cond (eqb (g .index) 0x62) (status 0 (withKeyBase g (withHigh (g .«key_base») v)))
+    (cond (eqb (g .index) 0x63) (status 0 (withKeyBase g (withLow (g .«key_base») v)))
+    (cond (eqb (g .index) 0xF2) (controlWrite g v) (status 4 g))))))
 
-unfoldable pub configDataWritten : Config → ℕ → Written
-configDataWritten g v =
+-- ---- the data port. "Data registers: 07h device number (one byte, any value). With device number 0Ah: [..]"
+unfoldable pub dataRead : Config → Answer
+dataRead g =
     cond (g .unlocked)
-    (cond (eqb (g .index) 0x07) (written 0 (withNumber g v))
-    (cond (eqb (g .number) 0x0A) (registerWritten g v) (written 4 g)))
-    (written 1 g)
+    (cond (eqb (g .index) 0x07) (done (g .number))
+    (cond (eqb (g .number) 0x0A) (registerRead g) (statusOnly 4)))
+    (statusOnly 1)
+
+unfoldable pub dataWrite : Config → ℕ → Result Config
+dataWrite g v =
+    cond (g .unlocked)
+    (cond (eqb (g .index) 0x07) (status 0 (withNumber g v))
+    (cond (eqb (g .number) 0x0A) (registerWrite g v) (status 4 g)))
+    (status 1 g)
+
+-- ---- the pair. "Blocks 1, 3 and 4 take width 1 only, else status 1."
+abbrev pub takes : ℕ → Bool
+takes width = eqb width 1
+
+-- offset 0 is the index port, 1 the data port
+unfoldable pub configAccess : Config → ℕ → Access → Result Config
+configAccess g offset x =
+    cond (takes (x .width))
+    (cond (eqb offset 0)
+    (cond (x .write) (indexWrite g (x .value % 256)) (result (indexRead g) g))
+    (cond (x .write) (dataWrite g (x .value % 256)) (result (dataRead g) g)))
+    (status 1 g)

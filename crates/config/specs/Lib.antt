@@ -1,2 +1,4 @@
+pub mod Base
+pub mod Fields
 pub mod Config
-pub mod Key
+pub mod Saved

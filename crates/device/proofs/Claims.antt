@@ -30,10 +30,10 @@ use Rattle.device.specs.Owner.{
 }
 
 pub runtime-at-most : (g : Config) → runtimeBase g ≤ 0xFF80
-runtime-at-most g = and-le-r (g .runtime_base) 0xFF80
+runtime-at-most g = and-le-r (g .«runtime_base») 0xFF80
 
 pub key-at-most : (g : Config) → keyBase g ≤ 0xFFE0
-key-at-most g = and-le-r (g .key_base) 0xFFE0
+key-at-most g = and-le-r (g .«key_base») 0xFFE0
 
 -- the owner claims the port
 claimed : (g : Config) (port k : ℕ) → owner g port ≡ suc k → holdsAt (claims g port) (suc k) ≡ true

@@ -1,5 +1,6 @@
 pub mod Claims
-pub mod Dispatch
+pub mod ByBlock
+pub mod ByOwner
 pub mod Orderly
 pub mod Range
 pub mod Settle

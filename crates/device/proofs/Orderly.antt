@@ -1,7 +1,7 @@
 -- "Apart from the settling below, statuses 1 to 5 change nothing. [..] A write's value answer is 0.", for every device and access: each
 -- block's answer is orderly. Assumes nothing.
 use Prim.Native.Nat.{ℕ, _-_}
-use mathlib.Core.Path.{_≡_, refl, ap}
+use mathlib.Core.Path.{_≡_, refl, ap, _∙_}
 use mathlib.Core.Bool.{Bool, true, false, cond}
 use Rattle.access.proofs.Block.{Orderly}
 use Rattle.access.specs.Block.{Result}
@@ -35,12 +35,11 @@ dispatch-orderly d x =
     let nobody : OrderlyResult d x _ = record { unchanged = λ n. refl; write-zero = λ e. refl } in
     let g = d .config in
     at-any (OrderlyResult d x) nobody (answers d x)
-    (nobody,
-    by-block (withConfig d) refl (config-orderly g (x .port - configPort) x),
-    by-block (withAcpi d) refl (acpi-orderly (d .acpi) (x .port - acpiPort) x),
-    by-block (withMonitor d) refl (monitor-orderly (d .monitor) (x .port - monitorPort g) x),
-    by-block (withKey d) refl (key-orderly (d .key) (g .control) (x .port - keyPort g) x),
-    tt)
+    (nobody
+    , (by-block (withConfig d) refl (config-orderly g (x .port - configPort) x)
+    , (by-block (withAcpi d) refl (acpi-orderly (d .acpi) (x .port - acpiPort) x)
+    , (by-block (withMonitor d) refl (monitor-orderly (d .monitor) (x .port - monitorPort g) x)
+    , (by-block (withKey d) refl (key-orderly (d .key) (g .control) (x .port - keyPort g) x), tt)))))
     (owner g (x .port))
 
 -- a write and a read are answered with the owner's status
@@ -60,4 +59,9 @@ access-unchanged d x n =
 
 pub write-answers-zero : (d : Device) (x : Access) → x .write ≡ true → deviceAccess d x .answer .value ≡ 0
 unfolding deviceAccess
-write-answers-zero d x w = rw w (dispatch-orderly d x .write-zero w)
+write-answers-zero d x w = ap (λ (b : Bool). given b .value) w ∙ dispatch-orderly d x .write-zero w
+  where
+    given : Bool → Answer
+    given b =
+        let r = dispatch d x .answer in
+        cond b r (record { status = r .status; value = readGives (r .status) (x .width) (r .value) })

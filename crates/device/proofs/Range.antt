@@ -6,19 +6,18 @@ use mathlib.Core.Bool.{true}
 use lib.Dec.{eqb}
 use Rattle.access.specs.declared.Access.{Access}
 use Rattle.acpi.proofs.Range as in-acpi
-use Rattle.acpi.specs.Acpi.{acpiAccess, acpiEvent, acpiInRange, acpiReset}
-use Rattle.acpi.specs.Settle.{acpiSettle}
+use Rattle.acpi.specs.Acpi.{acpiInRange, acpiReset, acpiSettle}
 use Rattle.acpi.specs.declared.Acpi.{Acpi}
 use Rattle.config.proofs.Range as in-config
-use Rattle.config.specs.Config.{configAccess, configInRange, configReset}
+use Rattle.config.specs.Config.{configInRange}
 use Rattle.config.specs.declared.Config.{Config}
 use Rattle.key.specs.declared.Key.{Key}
 use Rattle.lists.proofs.All.{at-any}
-use Rattle.lists.proofs.Tests.{all-hold, each-holds}
+use Rattle.lists.proofs.Tests.{all-hold, all-held}
 use Rattle.lists.specs.All.{All}
 use Rattle.mask.proofs.Branch.{branch}
 use Rattle.monitor.proofs.Range as in-monitor
-use Rattle.monitor.specs.Monitor.{monitorAccess, monitorEvent, monitorInRange, monitorReset}
+use Rattle.monitor.specs.Monitor.{monitorInRange}
 use Rattle.monitor.specs.declared.Monitor.{Monitor}
 use Rattle.device.proofs.Settle.{settle-fresh-device}
 use Rattle.device.specs.Device.{
@@ -50,12 +49,12 @@ record BlocksInRange (d : Device) : Type 0 where
 blocks : (d : Device) → InRange d → BlocksInRange d
 unfolding deviceInRange
 blocks d h =
-    let all = each-holds (rangeTests d) h in
+    let all = all-held (rangeTests d) h in
     record { config = all .0; acpi = all .1 .0; monitor = all .1 .1 .0 }
 
 together : (d : Device) → BlocksInRange d → InRange d
 unfolding deviceInRange
-together d b = all-hold (rangeTests d) (b .config, b .acpi, b .monitor, tt)
+together d b = all-hold (rangeTests d) (b .config, (b .acpi, (b .monitor, tt)))
 
 pub acpi-in-range : (d : Device) → InRange d → acpiInRange (d .acpi) ≡ true
 acpi-in-range d h = blocks d h .acpi
@@ -92,12 +91,10 @@ module _ (d : Device) (h : InRange d) where
       let b = blocks d h in
       let g = d .config in
       at-any (λ (r : AccessResult). InRange (r .device)) h (answers d x)
-      (h,
-      with-config _ (in-config.access-in-range g (x .port - configPort) x (b .config)),
-      with-acpi _ (in-acpi.access-in-range (d .acpi) (x .port - acpiPort) x (b .acpi)),
-      with-monitor _ (in-monitor.access-in-range (d .monitor) (x .port - monitorPort g) x (b .monitor)),
-      with-key _,
-      tt)
+      (h
+      , (with-config _ (in-config.access-in-range g (x .port - configPort) x (b .config))
+      , (with-acpi _ (in-acpi.access-in-range (d .acpi) (b .acpi) (x .port - acpiPort) x)
+      , (with-monitor _ (in-monitor.access-in-range (d .monitor) (b .monitor) (x .port - monitorPort g) x) , (with-key _, tt)))))
       (owner g (x .port))
 
   -- ---- an event
@@ -107,17 +104,17 @@ module _ (d : Device) (h : InRange d) where
       let b = blocks d h in
       together (resetDevice d level) (record {
         config = in-config.reset-in-range (d .config) level (b .config);
-        acpi = in-acpi.reset-in-range (d .acpi) level (b .acpi);
-        monitor = in-monitor.reset-in-range (d .monitor) level (b .monitor);
+        acpi = in-acpi.reset-in-range (d .acpi) (b .acpi) level;
+        monitor = in-monitor.reset-in-range (d .monitor) (b .monitor) level;
       })
 
   effect-in-range : (kind operand : ℕ) → InRange (eventEffect d kind operand)
   unfolding eventEffect
   effect-in-range kind operand =
       let b = blocks d h in
-      branch InRange (eqb (eventBlock kind) acpi) (with-acpi _ (in-acpi.event-in-range (d .acpi) kind operand (b .acpi)))
+      branch InRange (eqb (eventBlock kind) acpi) (with-acpi _ (in-acpi.event-in-range (d .acpi) (b .acpi) kind operand))
       (branch InRange (eqb (eventBlock kind) monitor)
-      (with-monitor _ (in-monitor.event-in-range (d .monitor) kind operand (b .monitor)))
+      (with-monitor _ (in-monitor.event-in-range (d .monitor) (b .monitor) kind operand))
       (branch InRange (eqb (eventBlock kind) everyBlock) (reset-in-range operand) h))
 
 pub access-in-range : (d : Device) (x : Access) → InRange d → InRange (deviceAccess d x .device)
@@ -131,9 +128,9 @@ event-in-range d number h =
 
 -- ---- "Reset 3 also key bytes and pin levels 0: the fresh device."
 pub reset-is-fresh : (d : Device) → resetDevice d 3 ≡ freshDevice
-unfolding resetDevice
+unfolding resetDevice acpiReset
 reset-is-fresh d = refl
 
 pub reset-event : (d : Device) → applyEvent d (6 * 2 ^ 24 + 3) ≡ freshDevice
-unfolding applyEvent eventEffect resetDevice eventBlock
+unfolding applyEvent eventEffect resetDevice eventBlock acpiReset
 reset-event d = settle-fresh-device

@@ -6,9 +6,8 @@ use mathlib.Core.Bool.{true}
 use native.Mathlib.Omega.{arith}
 use Rattle.acpi.proofs.Range.{timer-below}
 use Rattle.acpi.proofs.Ticks.{ticks}
-use Rattle.acpi.specs.Acpi.{acpiEvent}
-use Rattle.acpi.specs.Happen.{ticked}
-use Rattle.acpi.specs.Settle.{acpiSettle}
+use Rattle.acpi.specs.Acpi.{acpiEvent, acpiSettle}
+use Rattle.acpi.specs.Event.{ticked}
 use Rattle.acpi.specs.Times.{times}
 use Rattle.device.proofs.Range.{acpi-in-range}
 use Rattle.device.specs.Device.{deviceInRange, settleDevice, withAcpi}

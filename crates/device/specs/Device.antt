@@ -2,8 +2,8 @@
 use Prim.Native.Nat.{ℕ}
 use mathlib.Core.Bool.{Bool}
 use mathlib.Core.List.{List, [], _∷_}
-use Rattle.acpi.specs.Acpi.{acpiInRange, acpiReset, freshAcpi}
-use Rattle.acpi.specs.Settle.{acpiSettle, sciOn, smiOn}
+use Rattle.acpi.specs.Acpi.{acpiInRange, acpiReset, acpiSettle, freshAcpi}
+use Rattle.acpi.specs.Settle.{sciOn, smiOn}
 use Rattle.acpi.specs.declared.Acpi.{Acpi}
 use Rattle.config.specs.Config.{configInRange, configReset, freshConfig}
 use Rattle.config.specs.declared.Config.{Config}

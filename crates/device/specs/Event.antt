@@ -45,16 +45,16 @@ eventKinds =
     ∷ eventKind 7 0 acpi
     ∷ []
 
--- the row of a kind; a kind that is none goes to nobody
-abbrev pub rowOf : ℕ → List EventKind → EventKind
-rowOf kind [] = eventKind kind 0 nobody
-rowOf kind (r ∷ rs) = cond (eqb kind (r .kind)) r (rowOf kind rs)
+-- a column of the table at a kind; 0, which is nobody, for a kind that is none
+abbrev pub columnAt : (EventKind → ℕ) → ℕ → List EventKind → ℕ
+columnAt column kind [] = 0
+columnAt column kind (r ∷ rs) = cond (eqb kind (r .kind)) (column r) (columnAt column kind rs)
 
 unfoldable pub greatestOperand : ℕ → ℕ
-greatestOperand kind = rowOf kind eventKinds .greatest
+greatestOperand kind = columnAt (λ r. r .greatest) kind eventKinds
 
 unfoldable pub eventBlock : ℕ → ℕ
-eventBlock kind = rowOf kind eventKinds .block
+eventBlock kind = columnAt (λ r. r .block) kind eventKinds
 
 -- an event that refusal 12 lets through
 unfoldable pub isEvent : ℕ → Bool

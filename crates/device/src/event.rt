@@ -36,8 +36,11 @@ fn greatest_operand(kind: u32) -> u32
     match kind {
         Acpi::TICKS => 65535,
         Acpi::PIN => 15,
+        Acpi::RTC_ALARM => 0,
+        Acpi::BUS_MASTER => 0,
         Monitor::SENSOR => 3,
         RESET => 3,
+        Acpi::BUTTON => 0,
         _ => 0,
     }
 }

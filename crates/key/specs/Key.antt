@@ -4,8 +4,9 @@ use mathlib.Core.Bool.{Bool, cond}
 use lib.Dec.{eqb, ltb}
 use lib.ListN.{getD, set, replicate}
 use Rattle.access.specs.declared.Access.{Access}
+use Rattle.access.specs.declared.Answer.{Answer}
 use Rattle.access.specs.Block.{Result, result, status}
-use Rattle.access.specs.Status.{done}
+use Rattle.access.specs.Status.{done, statusOnly}
 use Rattle.mask.specs.Mask.{hasBit}
 use Rattle.key.specs.declared.Key.{Key}
 
@@ -22,8 +23,8 @@ takes width = eqb width 1
 
 -- "Key control: bit 2 write-lock, bit 1 read-lock, bit 0 lock. [..] A key read under read-lock and a key write under
 -- write-lock have status 2."
-unfoldable pub keyRead : Key → ℕ → ℕ → Result Key
-keyRead k control offset = cond (hasBit 0x02 control) (status 2 k) (result (done (getD (k .bytes) offset 0)) k)
+unfoldable pub keyRead : Key → ℕ → ℕ → Answer
+keyRead k control offset = cond (hasBit 0x02 control) (statusOnly 2) (done (getD (k .bytes) offset 0))
 
 unfoldable pub keyWrite : Key → ℕ → ℕ → ℕ → Result Key
 keyWrite k control offset v =
@@ -33,5 +34,5 @@ keyWrite k control offset v =
 unfoldable pub keyAccess : Key → ℕ → ℕ → Access → Result Key
 keyAccess k control offset x =
     cond (takes (x .width))
-    (cond (x .write) (keyWrite k control offset (x .value % 256)) (keyRead k control offset))
+    (cond (x .write) (keyWrite k control offset (x .value % 256)) (result (keyRead k control offset) k))
     (status 1 k)

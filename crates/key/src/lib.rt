@@ -63,21 +63,20 @@ impl Key {
         if access.write {
             return self.write(control, at, (access.value % 256) as u8);
         }
-        self.read(control, at)
-    }
-
-    fn read(self, control: u8, at: usize) -> AccessResult
-        requires { ⌜ at < 32 ⌝ }
-        ensures { λ r. ⌜ result (r .answer) (r .block) ≡ keyRead self control at ⌝ }
-    {
-        if mask::has(control, Key::READ_LOCK) {
-            return self.status(Answer::BLOCKED);
-        }
-        let value = self.bytes[at];
         AccessResult {
-            answer: Answer::done(mask::wide8(value)),
+            answer: self.read(control, at),
             block: self,
         }
+    }
+
+    fn read(self, control: u8, at: usize) -> Answer
+        requires { ⌜ at < 32 ⌝ }
+        ensures { λ r. ⌜ r ≡ keyRead self control at ⌝ }
+    {
+        if mask::has(control, Key::READ_LOCK) {
+            return Answer::status_only(Answer::BLOCKED);
+        }
+        Answer::done(mask::wide8(self.bytes[at]))
     }
 
     fn write(mut self, control: u8, at: usize, value: u8) -> AccessResult
@@ -101,7 +100,7 @@ impl Key {
         }
     }
 
-    pub fn to_bytes(self) -> [u8; 32]
+    pub fn to_bytes(self) -> [u8; Key::SIZE]
         ensures { λ r. ⌜ r ≡ keyBytes self ⌝ }
     {
         self.bytes

@@ -3,6 +3,7 @@ use Prim.Native.Nat.{ℕ, zero, suc, _+_, _-_, _≤_, _<_}
 use mathlib.Core.Path.{_≡_, refl, ap, _∙_}
 use mathlib.Core.Bool.{Bool, true, false, cond, _&&_}
 use mathlib.Core.List.{List, [], _∷_}
+use lib.ListN.{length}
 use native.Mathlib.Omega.{arith}
 use Rattle.lists.specs.All.{All}
 use Rattle.lists.specs.Tests.{allHold, firstFrom, firstHolding, holdsAt}
@@ -51,7 +52,13 @@ pub all-hold : (bs : List Bool) → All (λ b. b ≡ true) bs → allHold bs ≡
 all-hold [] t = refl
 all-hold (b ∷ bs) t = rw (t .0) (all-hold bs (t .1))
 
-pub each-holds : (bs : List Bool) → allHold bs ≡ true → All (λ b. b ≡ true) bs
-each-holds [] h = tt
-each-holds (true ∷ bs) h = (refl, each-holds bs h)
-each-holds (false ∷ bs) h = let z : _≡_ {A = ℕ} 0 1 = cc in absurd (omega arith)
+pub all-held : (bs : List Bool) → allHold bs ≡ true → All (λ b. b ≡ true) bs
+all-held [] h = tt
+all-held (true ∷ bs) h = (refl, all-held bs h)
+all-held (false ∷ bs) h = let z : _≡_ {A = ℕ} 0 1 = cc in absurd (omega arith)
+
+pub each-holds : (bs : List Bool) → allHold bs ≡ true → (k : ℕ) → k < length bs → holdsAt bs (suc k) ≡ true
+each-holds [] h k l = absurd (omega (arith, l))
+each-holds (true ∷ bs) h zero l = refl
+each-holds (true ∷ bs) h (suc k) l = each-holds bs h k (omega (arith, l))
+each-holds (false ∷ bs) h k l = let z : _≡_ {A = ℕ} 0 1 = cc in absurd (omega arith)

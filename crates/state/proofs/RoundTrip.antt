@@ -15,7 +15,7 @@ use Rattle.config.specs.Saved.{configBytes, configFrom, configSaved}
 use Rattle.device.specs.declared.Device.{Device}
 use Rattle.key.proofs.Saved as of-key
 use Rattle.key.specs.Saved.{keyBytes, keyFrom}
-use Rattle.lists.proofs.Tests.{all-hold, each-holds}
+use Rattle.lists.proofs.Tests.{all-hold, all-held}
 use Rattle.monitor.proofs.Saved as of-monitor
 use Rattle.monitor.specs.Saved.{monitorBytes, monitorFrom, monitorSaved}
 use Rattle.state.proofs.Parts.{cut, front-part, later-part, part-bytes, part-length, whole-part}
@@ -82,7 +82,7 @@ module _ (d : Device) where
   pub state-saved : isSaved (stateBytes d) ≡ true
   state-saved =
       rw (config-part, monitor-part, acpi-part)
-      (all-hold _ (of-config.bytes-saved (d .config), of-monitor.bytes-saved (d .monitor), of-acpi.bytes-saved (d .acpi), tt))
+      (all-hold _ (of-config.bytes-saved (d .config), (of-monitor.bytes-saved (d .monitor), (of-acpi.bytes-saved (d .acpi), tt))))
 
   pub device-back : Typed d → deviceFrom (stateBytes d) ≡ d
   device-back t =
@@ -115,7 +115,7 @@ module _ (bs : List ℕ) (n : length bs ≡ stateSize) where
   pub bytes-back : ((k : ℕ) → getD bs k 0 < 256) → isSaved bs ≡ true → stateBytes (deviceFrom bs) ≡ bs
   unfolding stateBytes
   bytes-back byte saved =
-      let s = each-holds _ saved in
+      let s = all-held _ saved in
       rw (
         of-config.save-back (part 0 9 bs) (part-length 0 9 bs (omega arith)) (part-bytes 0 9 bs byte) (s .0),
         of-key.save-back (part keyStart 32 bs) (part-length keyStart 32 bs (omega arith)),

@@ -17,47 +17,9 @@ Inv-loop maps k₀ k = (k ≤ 8) × (allBelow k (mapInRange maps) ≡ true)
 abbrev μ-loop : tie.MeasureT-loop
 μ-loop maps k₀ k = 8 - k
 
-loop-holds : tie.Need-loop-holds Inv-loop μ-loop
-loop-holds c = (omega arith, refl)
-
-mul-wide16 : tie.Need-mul-wide16 Inv-loop μ-loop
-mul-wide16 c = omega arith
-
-array-read-wide16 : tie.Need-array-read-wide16 Inv-loop μ-loop
-array-read-wide16 c = omega arith
-
-wide16-requires : tie.Need-wide16-requires Inv-loop μ-loop
-wide16-requires c κs = search needs
-
-is-legal-requires : tie.Need-is-legal-requires Inv-loop μ-loop
-is-legal-requires c κs = search needs
-
-returns : tie.Need-returns Inv-loop μ-loop
-returns c =
-    let k = c .before .before .before .before .loop .k in
-    let maps = c .before .before .before .before .before .args .t1 in
-    let t = rw (c .before .before .wide16 .ensures) at (c .before .is-legal .ensures) in
-    sym (all-false 8 (mapInRange maps) k (omega arith) (sym t ∙ not-true _ (c .if1 .taken)))
-
-add-k : tie.Need-add-k Inv-loop μ-loop
-add-k c = omega arith
-
-loop-less : tie.Need-loop-less Inv-loop μ-loop
-loop-less c = omega arith
-
-loop-again : tie.Need-loop-again Inv-loop μ-loop
-loop-again c =
-    let k = c .before .before .before .before .loop .k in
-    let maps = c .before .before .before .before .before .args .t1 in
-    let t = rw (c .before .before .wide16 .ensures) at (c .before .is-legal .ensures) in (
-      omega arith,
-      all-more k (mapInRange maps) (c .before .before .before .before .loop .inv .1) (sym t ∙ not-false _ (c .if1 .left)),
-    )
-
-returns-2 : tie.Need-returns-2 Inv-loop μ-loop
-returns-2 c =
-    let e : c .before .loop .k ≡ 8 = omega arith in
-    sym (rw e at (c .before .loop .inv .1))
+-- the map at `k`, as the code tests it
+tested : (c : tie.After-is-legal Inv-loop μ-loop) → c .is-legal .result ≡ mapInRange (c .before .before .before .before .args .t1) (c .before .before .before .loop .k)
+tested c = rw (c .before .wide16 .ensures) at (c .is-legal .ensures)
 
 pub maps-in-range-spec : {M : Type 1} → statement M
 maps-in-range-spec =
@@ -65,13 +27,23 @@ maps-in-range-spec =
     (tie.spec
     Inv-loop
     μ-loop
-    loop-holds
-    mul-wide16
-    array-read-wide16
-    wide16-requires
-    is-legal-requires
-    returns
-    add-k
-    loop-less
-    loop-again
-    returns-2)
+    (λ c. (omega arith, refl))
+    (λ c. omega arith)
+    (λ c. omega arith)
+    (λ c κs. search needs)
+    (λ c κs. search needs)
+    (λ c.
+    let l = c .before .before .before .before .loop in
+    let maps = c .before .before .before .before .before .args .t1 in
+    sym (all-false 8 (mapInRange maps) (l .k) (omega arith) (sym (tested (c .before)) ∙ not-true _ (c .if1 .taken))))
+    (λ c. omega arith)
+    (λ c. omega arith)
+    (λ c.
+    let l = c .before .before .before .before .loop in
+    let maps = c .before .before .before .before .before .args .t1 in (
+      omega arith,
+      all-more (l .k) (mapInRange maps) (l .inv .1) (sym (tested (c .before)) ∙ not-false _ (c .if1 .left)),
+    ))
+    (λ c.
+    let e : c .before .loop .k ≡ 8 = omega arith in
+    sym (rw e at (c .before .loop .inv .1))))

@@ -1,4 +1,5 @@
--- `acpi::Acpi::access` meets its contract. Assumes nothing.
+-- `acpi::Acpi::access` meets its contract.
+-- What calls, casts and indices ask for, `search` finds. Assumes nothing.
 use borrow.Author.Needs.{needs}
 use Rattle.acpi.specs.Acpi.{acpiAccess}
 use Rattle.acpi.proofs.Acpi.access.Statement.{statement}
@@ -11,8 +12,18 @@ access-spec =
     (tie.spec
     (λ c κs. search needs)
     (λ c κs. search needs)
-    (λ c. simp (← (c .before .before .before .takes .ensures), c .before .before .if1 .taken, c .before .if2 .taken, c .register-write .ensures))
+    (λ c. simp (
+      ← (c .before .before .before .takes .ensures),
+      c .before .before .if1 .taken,
+      c .before .if2 .taken,
+      c .register-write .ensures,
+    ))
     (λ c κs. search needs)
-    (λ c. simp (← (c .before .before .before .takes .ensures), c .before .before .if1 .taken, c .before .if2 .left, c .register-read .ensures))
+    (λ c. simp (
+      ← (c .before .before .before .takes .ensures),
+      c .before .before .if1 .taken,
+      c .before .if2 .left,
+      c .register-read .ensures,
+    ))
     (λ c κs. search needs)
-    (λ c. simp (← (c .before .before .takes .ensures), c .before .if1 .left, c .status-only .ensures)))
+    (λ c. simp (← (c .before .before .takes .ensures), c .before .if1 .left, c .status .ensures)))

@@ -13,6 +13,10 @@ command-write-spec =
     (λ c κs. search needs)
     (λ c κs. search needs)
     (λ c κs. search needs)
-    (λ c. simp (c .before .match .keys1, c .write .ensures))
-    (λ c. simp (c .before .match .keys2, c .write2 .ensures))
-    (λ c. simp (ne-eqb _ _ (c .before .match .rest .0 .1), ne-eqb _ _ (c .before .match .rest .1), c .write3 .ensures)))
+    (λ c. simp (c .before .match .keys1, c .status .ensures))
+    (λ c. simp (c .before .match .keys2, c .status2 .ensures))
+    (λ c. simp (
+      ne-eqb _ _ (c .before .match .rest .0 .1),
+      ne-eqb _ _ (c .before .match .rest .1),
+      c .status3 .ensures,
+    )))

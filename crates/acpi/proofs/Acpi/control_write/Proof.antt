@@ -12,6 +12,6 @@ control-write-spec =
     (tie.spec
     (λ c κs. search needs)
     (λ c κs. search needs)
-    (λ c. simp (c .before .before .masked16 .ensures, ne-eqb _ _ (c .before .if1 .taken), c .write .ensures))
+    (λ c. simp (c .before .before .masked16 .ensures, ne-eqb _ _ (c .before .if1 .taken), c .status .ensures))
     (λ c κs. search needs)
-    (λ c. simp (c .before .before .masked16 .ensures, eq-eqb _ _ (c .before .if1 .left), c .write2 .ensures)))
+    (λ c. simp (c .before .before .masked16 .ensures, eq-eqb _ _ (c .before .if1 .left), c .status2 .ensures)))

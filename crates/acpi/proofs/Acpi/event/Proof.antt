@@ -1,4 +1,5 @@
--- `acpi::Acpi::event` meets its contract: each arm is the definition's at its kind. Assumes nothing.
+-- `acpi::Acpi::event` meets its contract: each arm is the definition's at its kind.
+-- What calls, casts and indices ask for, `search` finds. Assumes nothing.
 use borrow.Author.Needs.{needs}
 use borrow.Author.Tests.{ne-eqb}
 use Rattle.acpi.specs.Acpi.{acpiEvent}
@@ -21,4 +22,12 @@ event-spec =
     (λ c. simp (c .before .match .keys3, c .raise .ensures))
     (λ c. simp (c .before .match .keys4, c .raise2 .ensures))
     (λ c. simp (c .before .match .keys5, c .raise3 .ensures))
-    (λ c. simp (ne-eqb _ _ (c .match .rest .0 .0 .0 .0 .1), ne-eqb _ _ (c .match .rest .0 .0 .0 .1), ne-eqb _ _ (c .match .rest .0 .0 .1), ne-eqb _ _ (c .match .rest .0 .1), ne-eqb _ _ (c .match .rest .1))))
+    (λ c.
+    let r = c .match .rest in
+    simp (
+      ne-eqb _ _ (r .0 .0 .0 .0 .1),
+      ne-eqb _ _ (r .0 .0 .0 .1),
+      ne-eqb _ _ (r .0 .0 .1),
+      ne-eqb _ _ (r .0 .1),
+      ne-eqb _ _ (r .1),
+    )))

@@ -1,15 +1,16 @@
--- `acpi::Acpi::in_range` meets its contract: its tests are the definition's, in the same order. Assumes nothing.
+-- `acpi::Acpi::in_range` meets its contract: its tests are the definition's, in the same order.
+-- What calls, casts and indices ask for, `search` finds. Assumes nothing.
+use Prim.Native.Nat.{_^_}
 use mathlib.Core.Path.{_≡_}
 use mathlib.Core.Bool.{Bool, _&&_, and-assoc, and-true}
 use mathlib.Core.List.{[], _∷_}
-use Rattle.lists.specs.Tests.{allHold}
 use borrow.Author.Needs.{needs}
-use Rattle.acpi.specs.Acpi.{acpiInRange, isCpuState, mapInRange}
-use Rattle.acpi.specs.Setup.{isSetupIndex}
+use lib.Dec.{leb, ltb}
+use Rattle.lists.specs.Tests.{allHold}
 use Rattle.mask.specs.Every.{allBelow}
 use Rattle.mask.specs.Mask.{within}
-use lib.Dec.{leb, ltb}
-use Prim.Native.Nat.{_^_}
+use Rattle.acpi.specs.Acpi.{acpiInRange, isCpuState, mapInRange}
+use Rattle.acpi.specs.Setup.{isSetupIndex}
 use Rattle.acpi.proofs.Acpi.in_range.Statement.{statement}
 use Rattle.acpi.proofs.Acpi.in_range.Tie as tie
 

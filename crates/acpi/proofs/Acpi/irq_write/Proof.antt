@@ -12,6 +12,6 @@ irq-write-spec =
     (tie.spec
     (λ c. search needs)
     (λ c κs. search needs)
-    (λ c. simp (le-leb _ _ (c .before .if1 .taken), c .write .ensures))
+    (λ c. simp (le-leb _ _ (c .before .if1 .taken), c .status .ensures))
     (λ c κs. search needs)
-    (λ c. simp (lt-leb _ _ (c .before .if1 .left), c .write2 .ensures)))
+    (λ c. simp (lt-leb _ _ (c .before .if1 .left), c .status2 .ensures)))

@@ -1,4 +1,5 @@
--- `acpi::Acpi::map_write` meets its contract. Assumes nothing.
+-- `acpi::Acpi::map_write` meets its contract.
+-- What calls, casts and indices ask for, `search` finds. Assumes nothing.
 use mathlib.Core.Path.{sym, _∙_}
 use native.Mathlib.Omega.{arith}
 use borrow.Author.Needs.{needs}
@@ -17,6 +18,6 @@ map-write-spec =
     (λ c. search needs)
     (λ c. search needs)
     (λ c κs. search needs)
-    (λ c. simp (← (c .before .before .is-legal .ensures), c .before .if1 .taken, c .write .ensures))
+    (λ c. simp (← (c .before .before .is-legal .ensures), c .before .if1 .taken, c .status .ensures))
     (λ c κs. search needs)
-    (λ c. simp (← (c .before .before .is-legal .ensures), c .before .if1 .left, c .write2 .ensures)))
+    (λ c. simp (← (c .before .before .is-legal .ensures), c .before .if1 .left, c .status2 .ensures)))

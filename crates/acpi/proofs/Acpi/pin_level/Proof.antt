@@ -1,4 +1,5 @@
--- `acpi::Acpi::pin_level` meets its contract. Assumes nothing.
+-- `acpi::Acpi::pin_level` meets its contract.
+-- What calls, casts and indices ask for, `search` finds. Assumes nothing.
 use borrow.Author.Needs.{needs}
 use Rattle.acpi.specs.Event.{pinLevel}
 use Rattle.acpi.proofs.Acpi.pin_level.Statement.{statement}

@@ -1,6 +1,6 @@
 -- `acpi::Acpi::raise_mapped` meets its contract. Assumes nothing.
-use borrow.Author.Needs.{needs}
 use mathlib.Core.Logic.{inl, inr}
+use borrow.Author.Needs.{needs}
 use borrow.Author.Tests.{ne-eqb}
 use Rattle.acpi.proofs.Legal.{between, outside}
 use Rattle.acpi.specs.Event.{raiseMapped}

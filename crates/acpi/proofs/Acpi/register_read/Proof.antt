@@ -1,4 +1,5 @@
--- `acpi::Acpi::register_read` meets its contract. Assumes nothing.
+-- `acpi::Acpi::register_read` meets its contract.
+-- What calls, casts and indices ask for, `search` finds. Assumes nothing.
 use borrow.Author.Needs.{needs}
 use borrow.Author.Tests.{ne-eqb}
 use Rattle.acpi.specs.Registers.{registerRead}
@@ -18,4 +19,10 @@ register-read-spec =
     (λ c. simp (c .before .match .keys1, c .done .ensures))
     (λ c. simp (c .before .match .keys2, c .done2 .ensures))
     (λ c. simp (c .before .match .keys3, c .setup-read .ensures))
-    (λ c. simp (ne-eqb _ _ (c .before .before .match .rest .0 .0 .1), ne-eqb _ _ (c .before .before .match .rest .0 .1), ne-eqb _ _ (c .before .before .match .rest .1), c .before .register-value .ensures, c .done3 .ensures)))
+    (λ c. simp (
+      ne-eqb _ _ (c .before .before .match .rest .0 .0 .1),
+      ne-eqb _ _ (c .before .before .match .rest .0 .1),
+      ne-eqb _ _ (c .before .before .match .rest .1),
+      c .before .register-value .ensures,
+      c .done3 .ensures,
+    )))

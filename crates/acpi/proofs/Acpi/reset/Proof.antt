@@ -15,4 +15,9 @@ reset-spec =
     (λ c. simp (c .match .keys1))
     (λ c. simp (c .match .keys2))
     (λ c. simp (c .before .before .match .keys3, c .before .fresh .ensures))
-    (λ c. simp (ne-eqb _ _ (c .before .match .rest .0 .0 .1), ne-eqb _ _ (c .before .match .rest .0 .1), ne-eqb _ _ (c .before .match .rest .1), c .fresh2 .ensures)))
+    (λ c. simp (
+      ne-eqb _ _ (c .before .match .rest .0 .0 .1),
+      ne-eqb _ _ (c .before .match .rest .0 .1),
+      ne-eqb _ _ (c .before .match .rest .1),
+      c .fresh2 .ensures,
+    )))

@@ -12,5 +12,15 @@ settle-spec =
     (λ c κs. search needs)
     (λ c κs. search needs)
     (λ c κs. search needs)
-    (λ c. simp (← (c .before .before .before .wake .ensures), ← (c .before .before .sci .ensures), ← (c .before .smi .ensures), c .if1 .taken))
-    (λ c. simp (← (c .before .before .before .wake .ensures), ← (c .before .before .sci .ensures), ← (c .before .smi .ensures), c .if1 .left)))
+    (λ c. simp (
+      ← (c .before .before .before .wake .ensures),
+      ← (c .before .before .sci .ensures),
+      ← (c .before .smi .ensures),
+      c .if1 .taken,
+    ))
+    (λ c. simp (
+      ← (c .before .before .before .wake .ensures),
+      ← (c .before .before .sci .ensures),
+      ← (c .before .smi .ensures),
+      c .if1 .left,
+    )))

@@ -15,6 +15,6 @@ setup-index-write-spec =
     (λ c κs. search needs)
     (λ c. omega (arith, setup-index (c .before .before .args .value) (sym (c .before .is-setup-index .ensures) ∙ c .if1 .taken)))
     (λ c κs. search needs)
-    (λ c. simp (← (c .before .before .is-setup-index .ensures), c .before .if1 .taken, c .write .ensures))
+    (λ c. simp (← (c .before .before .is-setup-index .ensures), c .before .if1 .taken, c .status .ensures))
     (λ c κs. search needs)
-    (λ c. simp (← (c .before .before .is-setup-index .ensures), c .before .if1 .left, c .write2 .ensures)))
+    (λ c. simp (← (c .before .before .is-setup-index .ensures), c .before .if1 .left, c .status2 .ensures)))

@@ -1,6 +1,7 @@
--- `acpi::Acpi::setup_read` meets its contract. Assumes nothing.
-use borrow.Author.Needs.{needs}
+-- `acpi::Acpi::setup_read` meets its contract.
+-- What calls, casts and indices ask for, `search` finds. Assumes nothing.
 use mathlib.Core.Logic.{inl, inr, ⊎-elim}
+use borrow.Author.Needs.{needs}
 use borrow.Author.Tests.{ne-eqb}
 use Rattle.acpi.proofs.Legal.{between, outside}
 use Rattle.acpi.specs.Setup.{setupRead}
@@ -30,7 +31,8 @@ setup-read-spec =
       ne-eqb _ _ (c .before .before .before .before .before .match .rest .0 .1),
       ne-eqb _ _ (c .before .before .before .before .before .match .rest .1),
       between 0x10 0x17 _ (c .before .before .before .before .if1 .left) (c .before .before .before .if2 .taken),
-      c .before .wide16 .ensures, c .done4 .ensures,
+      c .before .wide16 .ensures,
+      c .done4 .ensures,
     ))
     (λ c. simp (
       ne-eqb _ _ (c .before .before .match .rest .0 .0 .1),

@@ -1,6 +1,7 @@
--- `acpi::Acpi::setup_write` meets its contract. Assumes nothing.
-use borrow.Author.Needs.{needs}
+-- `acpi::Acpi::setup_write` meets its contract.
+-- What calls, casts and indices ask for, `search` finds. Assumes nothing.
 use mathlib.Core.Logic.{inl, inr, ⊎-elim}
+use borrow.Author.Needs.{needs}
 use borrow.Author.Tests.{ne-eqb}
 use Rattle.acpi.proofs.Legal.{between, outside}
 use Rattle.acpi.specs.Setup.{setupWrite}
@@ -19,8 +20,8 @@ setup-write-spec =
     (λ c. search needs)
     (λ c κs. search needs)
     (λ c κs. search needs)
-    (λ c. simp (c .before .match .keys1, c .write .ensures))
-    (λ c. simp (c .before .before .match .keys2, c .before .raise .ensures, c .write2 .ensures))
+    (λ c. simp (c .before .match .keys1, c .status .ensures))
+    (λ c. simp (c .before .before .match .keys2, c .before .raise .ensures, c .status2 .ensures))
     (λ c. simp (c .before .match .keys3, c .irq-write .ensures))
     (λ c. simp (
       ne-eqb _ _ (c .before .before .before .match .rest .0 .0 .1),
@@ -34,5 +35,5 @@ setup-write-spec =
       ne-eqb _ _ (c .before .before .match .rest .0 .1),
       ne-eqb _ _ (c .before .before .match .rest .1),
       outside 0x10 0x17 _ (⊎-elim (λ w. inl (w .taken)) (λ w. inr (w .1 .left)) (c .before .if1 .came)),
-      c .write3 .ensures,
+      c .status3 .ensures,
     )))

@@ -13,5 +13,9 @@ tick-spec =
     (tie.spec
     (λ c κs. search needs)
     (λ c κs. search needs)
-    (λ c. simp (← (remainder _ _ _ (c .before .before .wrapping-add-u32 .ensures)), lt-ltb _ _ (c .before .if1 .taken), c .raise .ensures))
+    (λ c. simp (
+      ← (remainder _ _ _ (c .before .before .wrapping-add-u32 .ensures)),
+      lt-ltb _ _ (c .before .if1 .taken),
+      c .raise .ensures,
+    ))
     (λ c. simp (← (remainder _ _ _ (c .before .wrapping-add-u32 .ensures)), le-ltb _ _ (c .if1 .left))))

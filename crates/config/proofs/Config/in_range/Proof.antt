@@ -1,6 +1,6 @@
 -- `config::Config::in_range` meets its contract. Assumes nothing.
-use Rattle.config.specs.Config.{configInRange}
 use borrow.Author.Needs.{needs}
+use Rattle.config.specs.Config.{configInRange}
 use Rattle.config.proofs.Config.in_range.Statement.{statement}
 use Rattle.config.proofs.Config.in_range.Tie as tie
 
@@ -12,18 +12,11 @@ within8-requires-2 c κs = search needs
 
 returns : tie.Need-returns
 unfolding configInRange
-returns c = simp (
-  ← (c .before .before .within8 .ensures),
-  c .before .if1 .taken,
-  ← (c .within82 .ensures),
-)
+returns c = rw (← (c .before .before .within8 .ensures), c .before .if1 .taken) (c .within82 .ensures)
 
 returns-2 : tie.Need-returns-2
 unfolding configInRange
-returns-2 c = simp (
-  ← (c .before .within8 .ensures),
-  c .if1 .left,
-)
+returns-2 c = rw (← (c .before .within8 .ensures), c .if1 .left)
 
 pub in-range-spec : {M : Type 1} → statement M
 in-range-spec = tie.close (tie.spec within8-requires within8-requires-2 returns returns-2)

@@ -37,7 +37,7 @@ returns-3 : tie.Need-returns-3
 unfolding keyAccess
 returns-3 c =
     let t = c .before .before .before .takes in
-    rw (← (t .ensures), not-false (t .result) (c .before .before .if1 .left), c .before .if2 .left) (c .read .ensures)
+    rw (← (t .ensures), not-false (t .result) (c .before .before .if1 .left), c .before .if2 .left, c .read .ensures)
 
 pub access-spec : {M : Type 1} → statement M
 access-spec =

@@ -33,7 +33,8 @@ loop-again : tie.Need-loop-again Inv-loop μ-loop
 loop-again c =
     let l = c .before .before .loop in
     let bytes = c .before .before .before .args .bytes .now in
-    (omega arith, (simp length-set (l .inv .1 .0), one-more (l .key) bytes (l .k) (l .inv .1 .1) (omega arith) (omega arith)))
+    let copied = one-more (l .key) bytes (l .k) (l .inv .1 .1) (omega arith) (omega arith) in
+    (omega arith, (simp length-set (l .inv .1 .0), copied))
 
 returns : tie.Need-returns Inv-loop μ-loop
 returns c =

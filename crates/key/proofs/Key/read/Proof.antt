@@ -7,15 +7,15 @@ use Rattle.key.proofs.Key.read.Tie as tie
 has-requires : tie.Need-has-requires
 has-requires c κs = search needs
 
-status-requires : tie.Need-status-requires
-status-requires c κs = search needs
+status-only-requires : tie.Need-status-only-requires
+status-only-requires c κs = search needs
 
 returns : tie.Need-returns
 unfolding keyRead
-returns c = rw (← (c .before .before .has .ensures), c .before .if1 .taken) (c .status .ensures)
+returns c = rw (← (c .before .before .has .ensures), c .before .if1 .taken) (c .status-only .ensures)
 
-element-copy-out-value : tie.Need-element-copy-out-value
-element-copy-out-value c = search needs
+element-copy-out-wide8 : tie.Need-element-copy-out-wide8
+element-copy-out-wide8 c = search needs
 
 wide8-requires : tie.Need-wide8-requires
 wide8-requires c κs = search needs
@@ -38,9 +38,9 @@ read-spec =
     tie.close
     (tie.spec
     has-requires
-    status-requires
+    status-only-requires
     returns
-    element-copy-out-value
+    element-copy-out-wide8
     wide8-requires
     done-requires
     returns-2)

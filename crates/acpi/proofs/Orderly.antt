@@ -1,0 +1,71 @@
+-- An access that is not done leaves the block as it is, and a write's answer has value 0. Assumes nothing.
+use Prim.Native.Nat.{ℕ, _-_}
+use mathlib.Core.Bool.{Bool, false}
+use lib.Dec.{eqb, leb}
+use Rattle.access.proofs.Block.{Orderly, kept, read-done, read-kept, write-done}
+use Rattle.access.specs.Block.{Result}
+use Rattle.access.specs.declared.Access.{Access}
+use Rattle.mask.proofs.Branch.{branch, branch-on}
+use Rattle.mask.specs.Mask.{hasBit}
+use Rattle.acpi.specs.Acpi.{acpiAccess}
+use Rattle.acpi.specs.Map.{legalMap}
+use Rattle.acpi.specs.Registers.{commandWrite, controlWrite, registerRead, registerWrite, takes}
+use Rattle.acpi.specs.Setup.{irqWrite, isMapIndex, isSetupIndex, mapWrite, setupIndexWrite, setupWrite}
+use Rattle.acpi.specs.declared.Acpi.{Acpi}
+
+read-orderly : (a : Acpi) (offset : ℕ) → Orderly a false (registerRead a offset)
+unfolding registerRead
+read-orderly a offset =
+    let P : Result Acpi → Type 0 = Orderly a false in
+    branch P (eqb offset 4) read-done (branch P (eqb offset 5) read-done (branch P (eqb offset 20) read-kept read-done))
+
+module _ (a : Acpi) (w : Bool) where
+  abbrev P : Result Acpi → Type 0
+  P = Orderly a w
+
+  command-orderly : (v : ℕ) → P (commandWrite a v)
+  unfolding commandWrite
+  command-orderly v = branch P (eqb v 1) write-done (branch P (eqb v 2) write-done kept)
+
+  control-orderly : (v : ℕ) → P (controlWrite a v)
+  unfolding controlWrite
+  control-orderly v = branch P (hasBit 0x2000 v) write-done write-done
+
+  setup-index-orderly : (v : ℕ) → P (setupIndexWrite a v)
+  unfolding setupIndexWrite
+  setup-index-orderly v = branch P (isSetupIndex v) write-done kept
+
+  map-orderly : (pin v : ℕ) → P (mapWrite a pin v)
+  unfolding mapWrite
+  map-orderly pin v = branch P (legalMap v) write-done kept
+
+  irq-orderly : (v : ℕ) → P (irqWrite a v)
+  unfolding irqWrite
+  irq-orderly v = branch P (leb v 15) write-done kept
+
+  setup-orderly : (v : ℕ) → P (setupWrite a v)
+  unfolding setupWrite
+  setup-orderly v =
+      branch P (eqb (a .setupidx) 0x00) kept
+      (branch P (isMapIndex (a .setupidx)) (map-orderly (a .setupidx - 0x10) v)
+      (branch P (eqb (a .setupidx) 0x40) write-done (branch P (eqb (a .setupidx) 0x41) (irq-orderly v) kept)))
+
+  write-orderly : (offset v : ℕ) → P (registerWrite a offset v)
+  unfolding registerWrite
+  write-orderly offset v =
+      branch P (eqb offset 0) write-done
+      (branch P (eqb offset 6) (command-orderly v)
+      (branch P (eqb offset 8) write-done
+      (branch P (eqb offset 10) write-done
+      (branch P (eqb offset 12) (control-orderly v)
+      (branch P (eqb offset 14) (setup-index-orderly v)
+      (branch P (eqb offset 16) write-done
+      (branch P (eqb offset 18) write-done (branch P (eqb offset 20) (setup-orderly v) kept))))))))
+
+pub acpi-orderly : (a : Acpi) (offset : ℕ) (x : Access) → Orderly a (x .write) (acpiAccess a offset x)
+unfolding acpiAccess
+acpi-orderly a offset x =
+    let P : Result Acpi → Type 0 = Orderly a (x .write) in
+    branch P (takes offset (x .width))
+    (branch-on P (x .write) (λ e. write-orderly a (x .write) offset (x .value)) (λ e. rw e (read-orderly a offset)))
+    kept

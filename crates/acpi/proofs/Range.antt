@@ -1,0 +1,249 @@
+-- The fresh and the reset ACPI block are in range, and every access, event and settling leaves it so: what is stored is masked
+-- or tested, status bits are set within the mask, and the timer is a remainder. Assumes nothing.
+use Prim.Native.Nat.{ℕ, _+_, _-_, _%_, _^_, _<_}
+use mathlib.Core.Path.{_≡_, refl}
+use mathlib.Core.Bool.{Bool, true, false, _&&_, _||_}
+use mathlib.Core.List.{List}
+use native.Mathlib.Omega.{arith}
+use borrow.Author.Tests.{lt-ltb, ltb-true}
+use lib.Bits.{bitAnd, bitOr}
+use lib.Dec.{eqb, leb, ltb}
+use lib.ListN.{getD, set}
+use Rattle.access.specs.Block.{Result}
+use Rattle.access.specs.declared.Access.{Access}
+use Rattle.lists.proofs.Tests.{each-holds}
+use Rattle.mask.proofs.Branch.{branch, branch-on}
+use Rattle.mask.proofs.Mask.{within-and, within-masked, within-or}
+use Rattle.mask.proofs.Store.{all-stored}
+use Rattle.mask.specs.Every.{allBelow}
+use Rattle.mask.specs.Mask.{cleared, hasBit, within}
+use Rattle.acpi.specs.Acpi.{
+  acpiAccess,
+  acpiEvent,
+  acpiInRange,
+  acpiReset,
+  acpiSettle,
+  freshAcpi,
+  isCpuState,
+  mapInRange,
+  rangeTests,
+}
+use Rattle.acpi.specs.Event.{passed, pinLevel, raiseMapped, ticked}
+use Rattle.acpi.specs.Fields.{
+  raise,
+  withCpu,
+  withIrq,
+  withLevels,
+  withMaps,
+  withPcnt,
+  withPm1cnt,
+  withPm1en,
+  withPm1sts,
+  withSetupidx,
+  withSleeping,
+  withTimer,
+}
+use Rattle.acpi.specs.Map.{inDirection, isGpeTarget, legalMap}
+use Rattle.acpi.specs.Registers.{commandWrite, controlWrite, registerRead, registerWrite, takes}
+use Rattle.acpi.specs.Settle.{pending, sciOn, smiOn, wake}
+use Rattle.acpi.specs.Setup.{irqWrite, isMapIndex, isSetupIndex, mapWrite, setupIndexWrite, setupWrite}
+use Rattle.acpi.specs.declared.Acpi.{Acpi}
+
+pub fresh-in-range : acpiInRange freshAcpi ≡ true
+unfolding acpiInRange legalMap
+fresh-in-range = refl
+
+-- ---- the test taken apart, register by register, and put together again
+record Ranged (a : Acpi) : Type 0 where
+  pcnt : within 0x17 (a .pcnt) ≡ true
+  cpu : isCpuState (a .cpu) ≡ true
+  pm1sts : within 0x8F31 (a .pm1sts) ≡ true
+  pm1en : within 0x0721 (a .pm1en) ≡ true
+  pm1cnt : within 0x1C02 (a .pm1cnt) ≡ true
+  setupidx : isSetupIndex (a .setupidx) ≡ true
+  irq : leb (a .irq) 15 ≡ true
+  timer : ltb (a .timer) (2 ^ 24) ≡ true
+  maps : allBelow 8 (mapInRange (a .maps)) ≡ true
+
+apart : (a : Acpi) → acpiInRange a ≡ true → Ranged a
+unfolding acpiInRange
+apart a h =
+    let test = each-holds (rangeTests a) h in
+    record {
+      pcnt = test 0 (omega arith);
+      cpu = test 1 (omega arith);
+      pm1sts = test 2 (omega arith);
+      pm1en = test 3 (omega arith);
+      pm1cnt = test 4 (omega arith);
+      setupidx = test 5 (omega arith);
+      irq = test 6 (omega arith);
+      timer = test 7 (omega arith);
+      maps = test 8 (omega arith);
+    }
+
+together : (a : Acpi)
+    → within 0x17 (a .pcnt) ≡ true
+    → isCpuState (a .cpu) ≡ true
+    → within 0x8F31 (a .pm1sts) ≡ true
+    → within 0x0721 (a .pm1en) ≡ true
+    → within 0x1C02 (a .pm1cnt) ≡ true
+    → isSetupIndex (a .setupidx) ≡ true
+    → leb (a .irq) 15 ≡ true
+    → ltb (a .timer) (2 ^ 24) ≡ true
+    → allBelow 8 (mapInRange (a .maps)) ≡ true
+    → acpiInRange a ≡ true
+unfolding acpiInRange
+together a p c s e n x i t m = rw (p, c, s, e, n, x, i, t, m)
+
+-- a block, or what an access leaves, is in range
+abbrev Kept : Acpi → Type 0
+Kept a = acpiInRange a ≡ true
+
+abbrev KeptBy : Result Acpi → Type 0
+KeptBy r = Kept (r .block)
+
+module _ (a : Acpi) (h : acpiInRange a ≡ true) where
+  r : Ranged a
+  r = apart a h
+
+  pub timer-below : a .timer < 2 ^ 24
+  timer-below = ltb-true (a .timer) (2 ^ 24) (r .timer)
+
+  -- ---- one register changed; levels, SCI_EN, sleep and GPE0 take any value
+  kept-pcnt : (v : ℕ) → within 0x17 v ≡ true → Kept (withPcnt a v)
+  kept-pcnt v k =
+      together (withPcnt a v) k (r .cpu) (r .pm1sts) (r .pm1en) (r .pm1cnt) (r .setupidx) (r .irq) (r .timer) (r .maps)
+
+  kept-cpu : (v : ℕ) → isCpuState v ≡ true → Kept (withCpu a v)
+  kept-cpu v k =
+      together (withCpu a v) (r .pcnt) k (r .pm1sts) (r .pm1en) (r .pm1cnt) (r .setupidx) (r .irq) (r .timer) (r .maps)
+
+  kept-pm1sts : (v : ℕ) → within 0x8F31 v ≡ true → Kept (withPm1sts a v)
+  kept-pm1sts v k =
+      together (withPm1sts a v) (r .pcnt) (r .cpu) k (r .pm1en) (r .pm1cnt) (r .setupidx) (r .irq) (r .timer) (r .maps)
+
+  kept-pm1en : (v : ℕ) → within 0x0721 v ≡ true → Kept (withPm1en a v)
+  kept-pm1en v k =
+      together (withPm1en a v) (r .pcnt) (r .cpu) (r .pm1sts) k (r .pm1cnt) (r .setupidx) (r .irq) (r .timer) (r .maps)
+
+  kept-pm1cnt : (v : ℕ) → within 0x1C02 v ≡ true → Kept (withPm1cnt a v)
+  kept-pm1cnt v k =
+      together (withPm1cnt a v) (r .pcnt) (r .cpu) (r .pm1sts) (r .pm1en) k (r .setupidx) (r .irq) (r .timer) (r .maps)
+
+  kept-setupidx : (v : ℕ) → isSetupIndex v ≡ true → Kept (withSetupidx a v)
+  kept-setupidx v k =
+      together (withSetupidx a v) (r .pcnt) (r .cpu) (r .pm1sts) (r .pm1en) (r .pm1cnt) k (r .irq) (r .timer) (r .maps)
+
+  kept-irq : (v : ℕ) → leb v 15 ≡ true → Kept (withIrq a v)
+  kept-irq v k =
+      together (withIrq a v) (r .pcnt) (r .cpu) (r .pm1sts) (r .pm1en) (r .pm1cnt) (r .setupidx) k (r .timer) (r .maps)
+
+  kept-timer : (v : ℕ) → ltb v (2 ^ 24) ≡ true → Kept (withTimer a v)
+  kept-timer v k =
+      together (withTimer a v) (r .pcnt) (r .cpu) (r .pm1sts) (r .pm1en) (r .pm1cnt) (r .setupidx) (r .irq) k (r .maps)
+
+  kept-maps : (ms : List ℕ) → allBelow 8 (mapInRange ms) ≡ true → Kept (withMaps a ms)
+  kept-maps ms k =
+      together (withMaps a ms) (r .pcnt) (r .cpu) (r .pm1sts) (r .pm1en) (r .pm1cnt) (r .setupidx) (r .irq) (r .timer) k
+
+  kept-raise : (bits : ℕ) → within 0x8F31 bits ≡ true → Kept (raise a bits)
+  kept-raise bits k = kept-pm1sts (bitOr (a .pm1sts) bits) (within-or 0x8F31 (a .pm1sts) bits (r .pm1sts) k)
+
+  -- ---- accesses
+  kept-read : (offset : ℕ) → KeptBy (registerRead a offset)
+  unfolding registerRead
+  kept-read offset =
+      branch KeptBy (eqb offset 4) (kept-cpu 2 refl)
+      (branch KeptBy (eqb offset 5) (kept-cpu 3 refl) (branch KeptBy (eqb offset 20) h h))
+
+  kept-map : (pin v : ℕ) → KeptBy (mapWrite a pin v)
+  unfolding mapWrite
+  kept-map pin v =
+      branch-on KeptBy (legalMap v)
+      (λ l. kept-maps (set (a .maps) pin v) (all-stored 8 (λ k. legalMap) (a .maps) pin v l (r .maps)))
+      (λ l. h)
+
+  kept-setup : (v : ℕ) → KeptBy (setupWrite a v)
+  unfolding setupWrite irqWrite
+  kept-setup v =
+      branch KeptBy (eqb (a .setupidx) 0x00) h
+      (branch KeptBy (isMapIndex (a .setupidx)) (kept-map (a .setupidx - 0x10) v)
+      (branch KeptBy (eqb (a .setupidx) 0x40) (kept-raise 0x0020 refl)
+      (branch KeptBy (eqb (a .setupidx) 0x41) (branch-on KeptBy (leb v 15) (kept-irq v) (λ l. h)) h)))
+
+  kept-setup-index : (v : ℕ) → KeptBy (setupIndexWrite a v)
+  unfolding setupIndexWrite
+  kept-setup-index v = branch-on KeptBy (isSetupIndex v) (kept-setupidx v) (λ l. h)
+
+  kept-command : (v : ℕ) → KeptBy (commandWrite a v)
+  unfolding commandWrite acpiInRange
+  kept-command v = branch KeptBy (eqb v 1) h (branch KeptBy (eqb v 2) h h)
+
+  kept-control : (v : ℕ) → KeptBy (controlWrite a v)
+  unfolding controlWrite acpiInRange
+  kept-control v =
+      let k = kept-pm1cnt (bitAnd v 0x1C02) (within-masked 0x1C02 v) in
+      branch KeptBy (hasBit 0x2000 v) k k
+
+  kept-write : (offset v : ℕ) → KeptBy (registerWrite a offset v)
+  unfolding registerWrite acpiInRange
+  kept-write offset v =
+      branch KeptBy (eqb offset 0) (kept-pcnt (bitAnd v 0x17) (within-masked 0x17 v))
+      (branch KeptBy (eqb offset 6) (kept-command v)
+      (branch KeptBy (eqb offset 8)
+      (kept-pm1sts (cleared 0xFFFF (a .pm1sts) (bitAnd v 0xFFFF))
+      (within-and 0x8F31 (a .pm1sts) (0xFFFF - bitAnd v 0xFFFF) (r .pm1sts)))
+      (branch KeptBy (eqb offset 10) (kept-pm1en (bitAnd v 0x0721) (within-masked 0x0721 v))
+      (branch KeptBy (eqb offset 12) (kept-control v)
+      (branch KeptBy (eqb offset 14) (kept-setup-index v)
+      (branch KeptBy (eqb offset 16) h
+      (branch KeptBy (eqb offset 18) h (branch KeptBy (eqb offset 20) (kept-setup v) h))))))))
+
+  pub access-in-range : (offset : ℕ) (x : Access) → acpiInRange (acpiAccess a offset x .block) ≡ true
+  unfolding acpiAccess
+  access-in-range offset x =
+      branch KeptBy (takes offset (x .width)) (branch KeptBy (x .write) (kept-write offset (x .value)) (kept-read offset)) h
+
+  -- ---- resets
+  pub reset-in-range : (level : ℕ) → acpiInRange (acpiReset a level) ≡ true
+  unfolding acpiReset acpiInRange legalMap
+  reset-in-range level = branch Kept (eqb level 0 || eqb level 1) h (branch Kept (eqb level 2) refl refl)
+
+-- ---- events and settling
+kept-ticked : (a : Acpi) → Kept a → (n : ℕ) → Kept (ticked a n)
+unfolding ticked
+kept-ticked a h n =
+    let v = (a .timer + n) % 2 ^ 24 in
+    let k = kept-timer a h v (lt-ltb v (2 ^ 24) (omega arith)) in
+    branch Kept (passed (a .timer) v) (kept-raise (withTimer a v) k 0x0001 refl) k
+
+kept-mapped : (a : Acpi) → Kept a → (m : ℕ) → Kept (raiseMapped a m)
+unfolding raiseMapped acpiInRange
+kept-mapped a h m =
+    branch Kept (eqb (m % 256) 0x08) (kept-raise a h 0x0100 refl)
+    (branch Kept (eqb (m % 256) 0x09) (kept-raise a h 0x0200 refl) (branch Kept (isGpeTarget (m % 256)) h h))
+
+kept-pin : (a : Acpi) → Kept a → (pin : ℕ) (level : Bool) → Kept (pinLevel a pin level)
+unfolding pinLevel acpiInRange
+kept-pin a h pin level =
+    branch Kept (inDirection (getD (a .maps) pin 0) (getD (a .levels) pin false) level)
+    (kept-mapped (withLevels a (set (a .levels) pin level)) h (getD (a .maps) pin 0))
+    h
+
+pub event-in-range : (a : Acpi) → acpiInRange a ≡ true → (kind operand : ℕ) → acpiInRange (acpiEvent a kind operand) ≡ true
+unfolding acpiEvent
+event-in-range a h kind operand =
+    branch Kept (eqb kind 1) (kept-ticked a h operand)
+    (branch Kept (eqb kind 2) (kept-pin a h (operand % 8) (hasBit 0x08 operand))
+    (branch Kept (eqb kind 3) (kept-raise a h 0x0400 refl)
+    (branch Kept (eqb kind 4) (kept-raise a h 0x0010 refl) (branch Kept (eqb kind 7) (kept-raise a h 0x0800 refl) h))))
+
+kept-wake : (a : Acpi) → Kept a → Kept (wake a)
+unfolding wake acpiInRange
+kept-wake a h = branch Kept (a .sleeping && pending a) (kept-raise (withSleeping a false) h 0x8000 refl) h
+
+pub settle-in-range : (a : Acpi) → acpiInRange a ≡ true → acpiInRange (acpiSettle a) ≡ true
+unfolding acpiSettle
+settle-in-range a h =
+    let w = kept-wake a h in
+    branch Kept (sciOn (wake a) || smiOn (wake a)) (kept-cpu (wake a) w 0 refl) w

@@ -1,0 +1,124 @@
+-- Ticks: TMR_STS is set exactly from FFFFFFh; settling between ticks changes nothing, as only the order of two status
+-- bits differs; so n ticks are n single ticks, by one tick more at a time. Assumes nothing.
+use Prim.Native.Nat.{ℕ, zero, suc, _+_, _%_, _^_, _≤_, _<_}
+use mathlib.Core.Path.{_≡_, refl, sym, ap, _∙_}
+use mathlib.Core.Bool.{Bool, true, false, cond, _||_}
+use native.Mathlib.Omega.{arith}
+use native.Mathlib.Decide.{ℕ-discrete}
+use borrow.Author.Tests.{eq-eqb, ne-eqb, lt-ltb, le-ltb, ltb-true, ltb-false}
+use lib.Bits.{bitOr, or-comm}
+use lib.Dec.{eqb}
+use Rattle.mask.proofs.Bits.{or-assoc}
+use Rattle.acpi.proofs.Settle.{awake, pending-awake, pending-raise, settle-idle, settle-pending}
+use Rattle.acpi.specs.Acpi.{acpiSettle}
+use Rattle.acpi.specs.Fields.{raise, withCpu, withPm1sts, withSleeping, withTimer}
+use Rattle.acpi.specs.Event.{passed, ticked}
+use Rattle.acpi.specs.Settle.{pending}
+use Rattle.acpi.specs.Times.{times}
+use Rattle.acpi.specs.declared.Acpi.{Acpi}
+
+-- "TMR_STS (bit 0) is set when it passes from FFFFFFh to 0"
+pub passes-from : (t : ℕ) → t < 2 ^ 24 → passed t ((t + 1) % 2 ^ 24) ≡ eqb t 0xFFFFFF
+passes-from t h = pick (ℕ-discrete t 0xFFFFFF)
+  where
+    pick : Dec (t ≡ 0xFFFFFF) → passed t ((t + 1) % 2 ^ 24) ≡ eqb t 0xFFFFFF
+    pick (yes e) = lt-ltb ((t + 1) % 2 ^ 24) t (omega arith) ∙ sym (eq-eqb t 0xFFFFFF e)
+    pick (no n) = le-ltb ((t + 1) % 2 ^ 24) t (omega arith) ∙ sym (ne-eqb t 0xFFFFFF n)
+
+or-swap : (a b c : ℕ) → bitOr (bitOr a b) c ≡ bitOr (bitOr a c) b
+or-swap a b c = or-assoc a b c ∙ ap (bitOr a) (or-comm b c) ∙ sym (or-assoc a c b)
+
+-- a timer value stored, and TMR_STS set or not
+abbrev counted : Bool → Acpi → ℕ → Acpi
+counted p a v = cond p (raise (withTimer a v) 0x0001) (withTimer a v)
+
+pub pending-ticked : (a : Acpi) (n : ℕ) → pending a ≡ true → pending (ticked a n) ≡ true
+unfolding ticked pending
+pending-ticked a n h = pick (passed (a .timer) ((a .timer + n) % 2 ^ 24))
+  where
+    pick : (p : Bool) → pending (counted p a ((a .timer + n) % 2 ^ 24)) ≡ true
+    pick true = pending-raise a 0x0001 h
+    pick false = h
+
+-- waking before the ticks or after them: the two status bits are set in another order
+awake-ticked : (a : Acpi) (n : ℕ) → awake (ticked (awake a) n) ≡ awake (ticked a n)
+unfolding ticked
+awake-ticked a n = pick (a .sleeping)
+  where
+    both : (s p : Bool) (v : ℕ)
+        → awake (counted p (awake (withSleeping a s)) v) ≡ awake (counted p (withSleeping a s) v)
+    both true true v =
+        ap (withPm1sts (withCpu (withTimer (withSleeping a false) v) 0)) (or-swap (a .pm1sts) 0x8000 0x0001)
+    both true false v = refl
+    both false true v = refl
+    both false false v = refl
+
+    pick : (s : Bool) → awake (ticked (awake (withSleeping a s)) n) ≡ awake (ticked (withSleeping a s) n)
+    pick true = both true (passed (a .timer) ((a .timer + n) % 2 ^ 24)) ((a .timer + n) % 2 ^ 24)
+    pick false = both false (passed (a .timer) ((a .timer + n) % 2 ^ 24)) ((a .timer + n) % 2 ^ 24)
+
+pub settle-between : (a : Acpi) (n : ℕ) → acpiSettle (ticked (acpiSettle a) n) ≡ acpiSettle (ticked a n)
+settle-between a n = pick (pending a) refl
+  where
+    pick : (p : Bool) → pending a ≡ p → acpiSettle (ticked (acpiSettle a) n) ≡ acpiSettle (ticked a n)
+    pick false h = rw (settle-idle a h)
+    pick true h =
+        rw (settle-pending a h)
+        (settle-pending (ticked (awake a) n) (pending-ticked (awake a) n (pending-awake a h))
+        ∙ awake-ticked a n
+        ∙ sym (settle-pending (ticked a n) (pending-ticked a n h)))
+
+-- ---- one tick more
+counted-twice : (p q : Bool) (a : Acpi) (u v : ℕ) → counted q (counted p a u) v ≡ counted (p || q) a v
+counted-twice true true a u v = ap (withPm1sts (withTimer a v)) (or-assoc (a .pm1sts) 0x0001 0x0001)
+counted-twice true false a u v = refl
+counted-twice false true a u v = refl
+counted-twice false false a u v = refl
+
+-- fewer than 2^24 ticks pass FFFFFFh at most once: before the last tick, or with it
+passed-once : (t n : ℕ) → t < 2 ^ 24 → suc n < 2 ^ 24
+    → (passed t ((t + n) % 2 ^ 24) || passed ((t + n) % 2 ^ 24) (((t + n) % 2 ^ 24 + 1) % 2 ^ 24))
+    ≡ passed t (((t + n) % 2 ^ 24 + 1) % 2 ^ 24)
+passed-once t n h l = pick (passed t u) (passed u v) refl refl
+  where
+    u : ℕ
+    u = (t + n) % 2 ^ 24
+
+    v : ℕ
+    v = (u + 1) % 2 ^ 24
+
+    pick : (p q : Bool) → passed t u ≡ p → passed u v ≡ q → (p || q) ≡ passed t v
+    pick true q e f = let g = ltb-true u t e in sym (lt-ltb v t (omega arith))
+    pick false true e f =
+        let g = ltb-false u t e in
+        let k = ltb-true v u f in
+        sym (lt-ltb v t (omega arith))
+    pick false false e f =
+        let g = ltb-false u t e in
+        let k = ltb-false v u f in
+        sym (le-ltb v t (omega arith))
+
+pub ticked-more : (a : Acpi) (n : ℕ) → a .timer < 2 ^ 24 → suc n < 2 ^ 24 → ticked a (suc n) ≡ ticked (ticked a n) 1
+unfolding ticked
+ticked-more a n h l =
+    let same : (a .timer + suc n) % 2 ^ 24 ≡ (u + 1) % 2 ^ 24 = omega arith in
+    ap (λ (x : ℕ). counted (passed (a .timer) x) a x) same
+    ∙ ap (λ (p : Bool). counted p a ((u + 1) % 2 ^ 24)) (sym (passed-once (a .timer) n h l))
+    ∙ sym (pick (passed (a .timer) u))
+  where
+    u : ℕ
+    u = (a .timer + n) % 2 ^ 24
+
+    pick : (p : Bool) → ticked (counted p a u) 1 ≡ counted (p || passed u ((u + 1) % 2 ^ 24)) a ((u + 1) % 2 ^ 24)
+    pick true = counted-twice true (passed u ((u + 1) % 2 ^ 24)) a u ((u + 1) % 2 ^ 24)
+    pick false = counted-twice false (passed u ((u + 1) % 2 ^ 24)) a u ((u + 1) % 2 ^ 24)
+
+-- "1 ticks (0 to 65,535; from 1 up, same as that many single ticks)"
+pub ticks : (a : Acpi) (n : ℕ) → a .timer < 2 ^ 24 → 1 ≤ n → n ≤ 65535
+    → acpiSettle (ticked a n) ≡ times n (λ b. acpiSettle (ticked b 1)) a
+ticks a zero h k l = absurd (omega arith)
+ticks a (suc zero) h k l = refl
+ticks a (suc (suc n)) h k l =
+    ap acpiSettle (ticked-more a (suc n) h (omega arith))
+    ∙ sym (settle-between (ticked a (suc n)) 1)
+    ∙ ap (λ (b : Acpi). acpiSettle (ticked b 1)) (ticks a (suc n) h (omega arith) (omega arith))

@@ -1,0 +1,26 @@
+-- `config::Config::control_write` meets its contract. Assumes nothing.
+use borrow.Author.Needs.{needs}
+use Rattle.config.specs.Config.{controlWrite}
+use Rattle.config.proofs.Config.control_write.Statement.{statement}
+use Rattle.config.proofs.Config.control_write.Tie as tie
+
+has-requires : tie.Need-has-requires
+has-requires c κs = search needs
+
+status-requires : tie.Need-status-requires
+status-requires c κs = search needs
+
+returns : tie.Need-returns
+unfolding controlWrite
+returns c = rw (← (c .before .before .has .ensures), c .before .if1 .taken) (c .status .ensures)
+
+status-requires-2 : tie.Need-status-requires-2
+status-requires-2 c κs = search needs
+
+returns-2 : tie.Need-returns-2
+unfolding controlWrite
+returns-2 c = rw (← (c .before .before .has .ensures), c .before .if1 .left) (c .status2 .ensures)
+
+pub control-write-spec : {M : Type 1} → statement M
+control-write-spec =
+    tie.close (tie.spec has-requires status-requires returns status-requires-2 returns-2)

@@ -1,0 +1,58 @@
+-- An access that is not done leaves the configuration as it is, and the value answer of a write is 0. Assumes nothing.
+use Prim.Native.Nat.{ℕ, _%_}
+use mathlib.Core.Bool.{Bool, cond}
+use lib.Dec.{eqb}
+use Rattle.access.proofs.Block.{Orderly, kept, read-kept, write-done}
+use Rattle.access.specs.Block.{Result}
+use Rattle.access.specs.declared.Access.{Access}
+use Rattle.mask.proofs.Branch.{branch, branch-on}
+use Rattle.mask.specs.Mask.{hasBit}
+use Rattle.config.specs.Config.{
+  configAccess,
+  controlWrite,
+  dataWrite,
+  indexWrite,
+  registerWrite,
+  takes,
+}
+use Rattle.config.specs.declared.Config.{Config}
+
+module _ (g : Config) (w : Bool) where
+  on : (test : Bool) {x y : Result Config} → Orderly g w x → Orderly g w y → Orderly g w (cond test x y)
+  on = branch (Orderly g w)
+
+module _ (g : Config) (w : Bool) (v : ℕ) where
+  index-write : Orderly g w (indexWrite g v)
+  unfolding indexWrite
+  index-write =
+      on g w (g .unlocked) (on g w (eqb v 0xAA) write-done write-done) (on g w (eqb v 0x55) write-done kept)
+
+  control-write : Orderly g w (controlWrite g v)
+  unfolding controlWrite
+  control-write = on g w (hasBit 0x01 (g .control)) kept write-done
+
+  register-write : Orderly g w (registerWrite g v)
+  unfolding registerWrite
+  register-write =
+      on g w (eqb (g .index) 0x30) write-done
+      (on g w (eqb (g .index) 0x60) write-done
+      (on g w (eqb (g .index) 0x61) write-done
+      (on g w (eqb (g .index) 0x62) write-done
+      (on g w (eqb (g .index) 0x63) write-done (on g w (eqb (g .index) 0xF2) control-write kept)))))
+
+  data-write : Orderly g w (dataWrite g v)
+  unfolding dataWrite
+  data-write =
+      on g w (g .unlocked)
+      (on g w (eqb (g .index) 0x07) write-done (on g w (eqb (g .number) 0x0A) register-write kept))
+      kept
+
+pub config-orderly : (g : Config) (offset : ℕ) (x : Access) → Orderly g (x .write) (configAccess g offset x)
+unfolding configAccess
+config-orderly g offset x =
+    let w = x .write in
+    on g w (takes (x .width))
+    (on g w (eqb offset 0)
+    (branch-on (Orderly g w) w (λ _. index-write g w (x .value % 256)) (λ e. rw e read-kept))
+    (branch-on (Orderly g w) w (λ _. data-write g w (x .value % 256)) (λ e. rw e read-kept)))
+    kept

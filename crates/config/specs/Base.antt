@@ -1,0 +1,16 @@
+-- A base register is two bytes, each with an index of its own: "60h/61h runtime base high/low; 62h/63h key base high/low".
+use Prim.Native.Nat.{ℕ}
+use Rattle.little_endian.specs.Bytes.{byte0, byte1, two}
+
+abbrev pub high : ℕ → ℕ
+high base = byte1 base
+
+abbrev pub low : ℕ → ℕ
+low base = byte0 base
+
+-- the base with one of its bytes written
+abbrev pub withHigh : ℕ → ℕ → ℕ
+withHigh base v = two (low base) v
+
+abbrev pub withLow : ℕ → ℕ → ℕ
+withLow base v = two v (high base)

@@ -1,0 +1,73 @@
+-- `device::Device::apply_event` meets its contract: in each arm the kind's block takes the event. Assumes nothing.
+use mathlib.Core.Path.{_≡_, ap, sym, _∙_}
+use borrow.Author.Needs.{needs}
+use Rattle.device.proofs.ByBlock.{by-acpi, by-monitor, by-nobody, by-reset}
+use Rattle.device.specs.Device.{settleDevice, withAcpi, withMonitor}
+use Rattle.device.proofs.Device.apply_event.Statement.{statement}
+use Rattle.device.proofs.Device.apply_event.Tie as tie
+
+event-block-requires : tie.Need-event-block-requires
+event-block-requires c κs = search needs
+
+event-requires : tie.Need-event-requires
+event-requires c κs = search needs
+
+settle-requires : tie.Need-settle-requires
+settle-requires c κs = search needs
+
+returns : tie.Need-returns
+returns c =
+    let e = c .before in
+    let m = e .before in
+    c .settle .ensures ∙ ap settleDevice (ap (withAcpi (m .before .before .args .self)) (e .event .ensures)) ∙ by-acpi _ _ (sym (m .before .event-block .ensures) ∙ m .match .keys1)
+
+event-requires-2 : tie.Need-event-requires-2
+event-requires-2 c κs = search needs
+
+settle-requires-2 : tie.Need-settle-requires-2
+settle-requires-2 c κs = search needs
+
+returns-2 : tie.Need-returns-2
+returns-2 c =
+    let e = c .before in
+    let m = e .before in
+    c .settle2 .ensures ∙ ap settleDevice (ap (withMonitor (m .before .before .args .self)) (e .event2 .ensures)) ∙ by-monitor _ _ (sym (m .before .event-block .ensures) ∙ m .match .keys2)
+
+reset-requires : tie.Need-reset-requires
+reset-requires c κs = search needs
+
+settle-requires-3 : tie.Need-settle-requires-3
+settle-requires-3 c κs = search needs
+
+returns-3 : tie.Need-returns-3
+returns-3 c =
+    let e = c .before in
+    let m = e .before in
+    c .settle3 .ensures ∙ ap settleDevice (e .reset .ensures) ∙ by-reset _ _ (sym (m .before .event-block .ensures) ∙ m .match .keys3)
+
+settle-requires-4 : tie.Need-settle-requires-4
+settle-requires-4 c κs = search needs
+
+returns-4 : tie.Need-returns-4
+returns-4 c =
+    let m = c .before in
+    let b = m .before .event-block .ensures in
+    let r = m .match .rest in
+    c .settle4 .ensures ∙ by-nobody _ _ (λ e. r .0 .0 .1 (b ∙ e)) (λ e. r .0 .1 (b ∙ e)) (λ e. r .1 (b ∙ e))
+
+pub apply-event-spec : {M : Type 1} → statement M
+apply-event-spec =
+    tie.close
+    (tie.spec
+    event-block-requires
+    event-requires
+    settle-requires
+    event-requires-2
+    settle-requires-2
+    reset-requires
+    settle-requires-3
+    settle-requires-4
+    returns
+    returns-2
+    returns-3
+    returns-4)

@@ -1,0 +1,13 @@
+-- `device::lone::access_refused` meets its contract. Assumes nothing.
+use borrow.Author.Needs.{needs}
+use Rattle.device.proofs.lone.access_refused.Statement.{statement}
+use Rattle.device.proofs.lone.access_refused.Tie as tie
+
+no-outputs-requires : tie.Need-no-outputs-requires
+no-outputs-requires c κs = search needs
+
+returns : tie.Need-returns
+returns c = simp (c .no-outputs .ensures)
+
+pub access-refused-spec : {M : Type 1} → statement M
+access-refused-spec = tie.close (tie.spec no-outputs-requires returns)
