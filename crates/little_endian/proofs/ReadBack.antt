@@ -5,7 +5,7 @@ use mathlib.Core.Path.{_≡_, refl}
 use mathlib.Core.Bool.{Bool, true, false}
 use mathlib.Core.List.{List, _++_}
 use lib.Dec.{eqb, ltb}
-use lib.ListN.{getD, length}
+use lib.ListN.{length}
 use lib.Seq.{getD-append-add}
 use native.Mathlib.Nat.{add-assoc}
 use native.Mathlib.Omega.{arith}

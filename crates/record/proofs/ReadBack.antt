@@ -1,9 +1,9 @@
 -- Reading the twelve bytes of a record gives the record back, wherever they lie, if its fields fit their bytes.
 -- Assumes nothing.
 use Prim.Native.Nat.{ℕ, _+_, _<_}
-use mathlib.Core.Path.{_≡_, ap, refl, _∙_}
+use mathlib.Core.Path.{_≡_, refl, _∙_}
 use mathlib.Core.List.{List, _++_}
-use lib.ListN.{getD, length}
+use lib.ListN.{length}
 use lib.Seq.{getD-append-add}
 use native.Mathlib.Nat.{mod-eq-of-lt}
 use native.Mathlib.Omega.{arith}

@@ -1,7 +1,6 @@
 -- Document 01, "Scripts and images": which fields a kind uses. "Unused fields are zero." "Values of kinds 3 and 4 are 0 to
 -- 65,535; of 1 and 5 they fit the width."
-use Prim.Native.Nat.{ℕ}
-use mathlib.Core.Bool.{Bool, cond, _&&_, _||_}
+use mathlib.Core.Bool.{Bool, _&&_}
 use lib.Dec.{eqb, leb}
 use Rattle.record.specs.declared.Record.{Record}
 use Rattle.width.specs.Width.{fitsWidth, isWidth}
