@@ -13,7 +13,7 @@ use Rattle.record.specs.declared.Record.{Record}
 use Rattle.script.specs.Records.{recordCount, recordsFrom, recordsOf}
 use Rattle.script.specs.Refusals.{innermost, scriptRefusal}
 use Rattle.script.proofs.Flat.{accepts}
-use Rattle.script.proofs.Records.{behind-last, counts, from-here}
+use Rattle.script.proofs.Records.{Counted, behind-last, counts, from-here}
 use Rattle.compiler.specs.Emit.{ahead, Aimed, emitFlat, framesAfter, gives, targetFor, wordFor, wordKind}
 use Rattle.compiler.specs.Words.{halt, imageBytes, word, wordsOf}
 use Rattle.compiler.proofs.Ahead.{emit-script}
@@ -22,8 +22,7 @@ use Rattle.compiler.proofs.Places.{count-words}
 
 -- ---- what holds before record k
 pub record Emitting (script lent targets image : List ℕ) (count place k : ℕ) : Type 0 where
-  pub few : count ≤ 1024
-  pub lies : recordSize * count ≤ length script
+  pub counted : Counted script count
   pub few-words : length (wordsOf script) ≤ 1024
   pub fits : recordSize * length (wordsOf script) ≤ length lent
   pub inside : k ≤ count
@@ -41,10 +40,8 @@ pub begins : (script lent targets : List ℕ) (count : ℕ) → count ≡ record
 unfolding recordsOf
 begins script lent targets count e h l a =
     let c : count - 0 ≡ recordCount script = omega arith in
-    let n = counts script count e h in
     record {
-      few = n .0;
-      lies = n .1;
+      counted = counts script count e h;
       few-words = rw (count-words script h) at (accepts script h .few-words);
       fits = l;
       inside = omega arith;
@@ -126,8 +123,7 @@ module _ {script lent targets image : List ℕ} {count place k : ℕ} (g : Emitt
     goes-on {w = w} b m i l =
         let y : gives (innermost (g .frames)) (r .kind) ≡ true = sym gives-so ∙ b in
         record {
-          few = g .few;
-          lies = g .lies;
+          counted = g .counted;
           few-words = g .few-words;
           fits = g .fits;
           inside = omega arith;
@@ -145,8 +141,7 @@ module _ {script lent targets image : List ℕ} {count place k : ℕ} (g : Emitt
     passes b =
         let n : gives (innermost (g .frames)) (r .kind) ≡ false = sym gives-so ∙ b in
         record {
-          few = g .few;
-          lies = g .lies;
+          counted = g .counted;
           few-words = g .few-words;
           fits = g .fits;
           inside = omega arith;

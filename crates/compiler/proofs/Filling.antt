@@ -1,7 +1,7 @@
 -- The pass that fills the table of targets, with the open blocks in two arrays: what holds before record k, and what each
 -- kind of record leaves. Assumes nothing.
-use Prim.Native.Nat.{ℕ, zero, suc, _+_, _-_, _*_, _≤_, _<_}
-use mathlib.Core.Path.{_≡_, refl, sym, ap, _∙_}
+use Prim.Native.Nat.{ℕ, suc, _+_, _-_, _*_, _≤_, _<_}
+use mathlib.Core.Path.{_≡_, sym, ap, _∙_}
 use mathlib.Core.Bool.{Bool, true, false, cond, not, _||_}
 use mathlib.Core.List.{List, [], _∷_}
 use mathlib.Core.Logic.{_⊎_, inl, inr}
@@ -17,14 +17,13 @@ use Rattle.record.specs.declared.Record.{Record}
 use Rattle.script.specs.Records.{recordCount, recordsFrom, recordsOf}
 use Rattle.script.specs.Refusals.{scriptRefusal}
 use Rattle.script.proofs.Flat.{accepted, accepts, numbers}
-use Rattle.script.proofs.Records.{behind-last, counts, from-here}
+use Rattle.script.proofs.Records.{Counted, behind-last, counts, from-here}
 use Rattle.compiler.specs.Emit.{Aimed, placeAfter}
 use Rattle.compiler.proofs.Targets.{Aiming, as-many, completes, elses-wait, ends-close, first-waits, ifs-open, next, Next, none, passes, repeats-open}
 
 -- ---- what holds before record k
 pub record Filling (script : List ℕ) (count : ℕ) (table waiting starts : List ℕ) (depth place k : ℕ) : Type 0 where
-  pub few : count ≤ 1024
-  pub lies : recordSize * count ≤ length script
+  pub counted : Counted script count
   pub inside : k ≤ count
   pub near : place ≤ k
   pub deep : depth ≤ 16
@@ -40,10 +39,8 @@ pub begins : (script table waiting starts : List ℕ) (count : ℕ) → count �
 unfolding recordsOf
 begins script table waiting starts count e h t w s =
     let c : count - 0 ≡ recordCount script = omega arith in
-    let n = counts script count e h in
     record {
-      few = n .0;
-      lies = n .1;
+      counted = counts script count e h;
       inside = omega arith;
       near = omega arith;
       deep = omega arith;
@@ -97,8 +94,7 @@ module _ {script : List ℕ} {count : ℕ} {table waiting starts : List ℕ} {de
   -- ---- a write, a read or a delay
   pub passed : kind ≤ 3 → Filling script count table waiting starts depth (place + 1) (k + 1)
   passed l = record {
-    few = g .few;
-    lies = g .lies;
+    counted = g .counted;
     inside = omega (arith, t .within);
     near = omega (arith, g .near);
     deep = g .deep;
@@ -120,8 +116,7 @@ module _ {script : List ℕ} {count : ℕ} {table waiting starts : List ℕ} {de
   opened start l m s =
       let n = room l m in
       record {
-        few = g .few;
-        lies = g .lies;
+        counted = g .counted;
         inside = omega (arith, t .within);
         near = omega (arith, g .near);
         deep = omega arith;
@@ -146,7 +141,7 @@ module _ {script : List ℕ} {count : ℕ} {table waiting starts : List ℕ} {de
       pick (no n) = rw (is 7 (omega (arith, after .most, t .kind-is)))
 
   sized : k < length table
-  sized = omega (arith, g .long, g .few, t .within)
+  sized = omega (arith, g .long, g .counted, t .within)
 
   module _ (o : 0 < depth) where
     abbrev frame : ℕ
@@ -167,8 +162,7 @@ module _ {script : List ℕ} {count : ℕ} {table waiting starts : List ℕ} {de
         → Filling script count (set table (getD waiting (depth - 1) 0) (place + 1)) (set waiting (depth - 1) k) starts depth
         (place + 1) (k + 1)
     elsed e = record {
-      few = g .few;
-      lies = g .lies;
+      counted = g .counted;
       inside = omega (arith, t .within);
       near = omega (arith, g .near);
       deep = g .deep;
@@ -184,8 +178,7 @@ module _ {script : List ℕ} {count : ℕ} {table waiting starts : List ℕ} {de
         → Filling script count (set (set table k (getD starts (depth - 1) 0)) (getD waiting (depth - 1) 0) behind) waiting
         starts (depth - 1) behind (k + 1)
     ended behind l n p = record {
-      few = g .few;
-      lies = g .lies;
+      counted = g .counted;
       inside = omega (arith, t .within);
       near = omega (arith, g .near, p, one-on (eqb frame 0));
       deep = omega (arith, g .deep);

@@ -3,7 +3,7 @@
 -- at its else, the look-ahead stops and its place is written. Assumes nothing.
 use Prim.Native.Nat.{ℕ, suc, _+_, _≤_, _<_}
 use mathlib.Core.Path.{_≡_, refl, ap, _∙_}
-use mathlib.Core.Bool.{Bool, true, false, cond, not, _||_}
+use mathlib.Core.Bool.{Bool, true, false, cond, not, _||_, false≢true}
 use mathlib.Core.List.{List, [], _∷_}
 use native.Mathlib.Numerals.{add-one}
 use native.Mathlib.Omega.{arith}
@@ -43,7 +43,7 @@ pub record Next (bs : List Block) (r : Record) (rs : List Record) : Type 0 where
   pub in-block : (eqb (r .kind) 6 || eqb (r .kind) 7) ≡ true → 0 < length (numbers bs)
 
 never : {A : Type 0} → false ≡ true → A
-never e = let z : _≡_ {A = ℕ} 0 1 = cc in absurd (omega arith)
+never e = absurd (false≢true e)
 
 pub next : {bs : List Block} {r : Record} {rs : List Record} → Accepted bs (r ∷ rs) → Next bs r rs
 next (writes {bs = bs} a b x) = record { blocks = bs; accepted = x; opened = refl; most = omega arith; room = never; in-if = never; in-block = never }

@@ -5,7 +5,7 @@ use mathlib.Core.Path.{_≡_, refl}
 use mathlib.Core.Bool.{Bool, true, false}
 use mathlib.Core.List.{List, _++_}
 use lib.Dec.{eqb, ltb}
-use lib.ListN.{getD, length}
+use lib.ListN.{length}
 use lib.Seq.{getD-append-add}
 use native.Mathlib.Nat.{add-assoc}
 use native.Mathlib.Omega.{arith}
@@ -52,10 +52,10 @@ byte-flag zero h = refl
 byte-flag (suc zero) h = refl
 byte-flag (suc (suc x)) h = let l : suc (suc x) < 2 = ltb-true (suc (suc x)) 2 h in absurd (omega arith)
 
--- ---- read behind a front
+-- ---- read after a front
 module _ (front bytes : List ℕ) (k : ℕ) where
-  pub two-behind : twoAt (front ++ bytes) (length front + k) ≡ twoAt bytes k
-  two-behind = simp (add-assoc, getD-append-add)
+  pub two-after : twoAt (front ++ bytes) (length front + k) ≡ twoAt bytes k
+  two-after = simp (add-assoc, getD-append-add)
 
-  pub four-behind : fourAt (front ++ bytes) (length front + k) ≡ fourAt bytes k
-  four-behind = simp (add-assoc, getD-append-add)
+  pub four-after : fourAt (front ++ bytes) (length front + k) ≡ fourAt bytes k
+  four-after = simp (add-assoc, getD-append-add)

@@ -2,7 +2,7 @@
 -- takes it out of use. Laid out, the counters of a sequencer in range are its array, and counters in range are a sequencer's
 -- in range. Assumes nothing.
 use Prim.Native.Nat.{ℕ, zero, suc, _+_, _-_, _≤_, _<_}
-use mathlib.Core.Path.{_≡_, refl, ap, sym, _∙_}
+use mathlib.Core.Path.{_≡_, ap, sym, _∙_}
 use mathlib.Core.Bool.{true, _&&_}
 use mathlib.Core.List.{List, [], _∷_, reverse}
 use native.Mathlib.Decide.{decLt}

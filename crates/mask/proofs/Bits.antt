@@ -1,6 +1,6 @@
 -- Laws of `bitAnd` and `bitOr` that the logic's library leaves out: each is proved digit by digit, by one lemma.
 -- Assumes nothing.
-use Prim.Native.Nat.{ℕ, zero, suc, _+_, _*_, _/_, _%_, _≤_, _<_}
+use Prim.Native.Nat.{ℕ, zero, suc, _+_, _/_, _%_, _≤_, _<_}
 use mathlib.Core.Path.{_≡_, refl, sym, ap, _∙_}
 use native.Mathlib.Omega.{arith}
 use lib.Bits.{bitAnd, bitOr, and-shr, and-mod, or-shr, or-mod}
@@ -29,35 +29,29 @@ module _
     same : (a b c : ℕ) → f a b c ≡ g a b c
     same a b c = upTo (a + b + c) a b c (omega arith) (omega arith) (omega arith)
 
-and-and : Digitwise (λ a b c. bitAnd (bitAnd a b) c)
-and-and = record {
-  half = λ a b c. and-shr (bitAnd a b) c 1 ∙ ap (λ (x : ℕ). bitAnd x (c / 2)) (and-shr a b 1);
-  last = λ a b c. and-mod (bitAnd a b) c 1 ∙ ap (λ (x : ℕ). bitAnd x (c % 2)) (and-mod a b 1);
-}
+-- an operation on two numbers that does, and two of them one inside the other
+record Bitwise (f : ℕ → ℕ → ℕ) : Type 0 where
+  half : (a b : ℕ) → f a b / 2 ≡ f (a / 2) (b / 2)
+  last : (a b : ℕ) → f a b % 2 ≡ f (a % 2) (b % 2)
 
-and-and-r : Digitwise (λ a b c. bitAnd a (bitAnd b c))
-and-and-r = record {
-  half = λ a b c. and-shr a (bitAnd b c) 1 ∙ ap (λ (x : ℕ). bitAnd (a / 2) x) (and-shr b c 1);
-  last = λ a b c. and-mod a (bitAnd b c) 1 ∙ ap (λ (x : ℕ). bitAnd (a % 2) x) (and-mod b c 1);
-}
+ands : Bitwise bitAnd
+ands = record { half = λ a b. and-shr a b 1; last = λ a b. and-mod a b 1 }
 
-or-or : Digitwise (λ a b c. bitOr (bitOr a b) c)
-or-or = record {
-  half = λ a b c. or-shr (bitOr a b) c 1 ∙ ap (λ (x : ℕ). bitOr x (c / 2)) (or-shr a b 1);
-  last = λ a b c. or-mod (bitOr a b) c 1 ∙ ap (λ (x : ℕ). bitOr x (c % 2)) (or-mod a b 1);
-}
+ors : Bitwise bitOr
+ors = record { half = λ a b. or-shr a b 1; last = λ a b. or-mod a b 1 }
 
-or-or-r : Digitwise (λ a b c. bitOr a (bitOr b c))
-or-or-r = record {
-  half = λ a b c. or-shr a (bitOr b c) 1 ∙ ap (λ (x : ℕ). bitOr (a / 2) x) (or-shr b c 1);
-  last = λ a b c. or-mod a (bitOr b c) 1 ∙ ap (λ (x : ℕ). bitOr (a % 2) x) (or-mod b c 1);
-}
+module _ {f g : ℕ → ℕ → ℕ} (x : Bitwise f) (y : Bitwise g) where
+  left : Digitwise (λ a b c. f (g a b) c)
+  left = record {
+    half = λ a b c. x .half (g a b) c ∙ ap (λ (n : ℕ). f n (c / 2)) (y .half a b);
+    last = λ a b c. x .last (g a b) c ∙ ap (λ (n : ℕ). f n (c % 2)) (y .last a b);
+  }
 
-or-and : Digitwise (λ a b c. bitAnd (bitOr a b) c)
-or-and = record {
-  half = λ a b c. and-shr (bitOr a b) c 1 ∙ ap (λ (x : ℕ). bitAnd x (c / 2)) (or-shr a b 1);
-  last = λ a b c. and-mod (bitOr a b) c 1 ∙ ap (λ (x : ℕ). bitAnd x (c % 2)) (or-mod a b 1);
-}
+  right : Digitwise (λ a b c. f a (g b c))
+  right = record {
+    half = λ a b c. x .half a (g b c) ∙ ap (f (a / 2)) (y .half b c);
+    last = λ a b c. x .last a (g b c) ∙ ap (f (a % 2)) (y .last b c);
+  }
 
 and-or : Digitwise (λ a b c. bitOr (bitAnd a c) (bitAnd b c))
 and-or = record {
@@ -87,15 +81,15 @@ eight P a b c d e f g h (suc zero) (suc zero) (suc (suc z)) i j k = absurd (omeg
 
 pub and-assoc : (a b c : ℕ) → bitAnd (bitAnd a b) c ≡ bitAnd a (bitAnd b c)
 and-assoc =
-    same (λ a b c. bitAnd (bitAnd a b) c) (λ a b c. bitAnd a (bitAnd b c)) and-and and-and-r
+    same (λ a b c. bitAnd (bitAnd a b) c) (λ a b c. bitAnd a (bitAnd b c)) (left ands ands) (right ands ands)
     (eight (λ a b c. bitAnd (bitAnd a b) c ≡ bitAnd a (bitAnd b c)) refl refl refl refl refl refl refl refl)
 
 pub or-assoc : (a b c : ℕ) → bitOr (bitOr a b) c ≡ bitOr a (bitOr b c)
 or-assoc =
-    same (λ a b c. bitOr (bitOr a b) c) (λ a b c. bitOr a (bitOr b c)) or-or or-or-r
+    same (λ a b c. bitOr (bitOr a b) c) (λ a b c. bitOr a (bitOr b c)) (left ors ors) (right ors ors)
     (eight (λ a b c. bitOr (bitOr a b) c ≡ bitOr a (bitOr b c)) refl refl refl refl refl refl refl refl)
 
 pub and-or-distrib : (a b c : ℕ) → bitAnd (bitOr a b) c ≡ bitOr (bitAnd a c) (bitAnd b c)
 and-or-distrib =
-    same (λ a b c. bitAnd (bitOr a b) c) (λ a b c. bitOr (bitAnd a c) (bitAnd b c)) or-and and-or
+    same (λ a b c. bitAnd (bitOr a b) c) (λ a b c. bitOr (bitAnd a c) (bitAnd b c)) (left ands ors) and-or
     (eight (λ a b c. bitAnd (bitOr a b) c ≡ bitOr (bitAnd a c) (bitAnd b c)) refl refl refl refl refl refl refl refl)

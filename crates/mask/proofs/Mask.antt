@@ -1,10 +1,10 @@
 -- Laws of `within`: what stays within a mask. Assumes nothing.
-use Prim.Native.Nat.{ℕ, _-_, _<_, _^_}
-use mathlib.Core.Path.{_≡_, refl, sym, ap, _∙_}
+use Prim.Native.Nat.{ℕ}
+use mathlib.Core.Path.{_≡_, sym, ap, _∙_}
 use mathlib.Core.Bool.{true}
 use lib.Bits.{bitAnd, bitOr, and-self, and-comm}
 use borrow.Author.Tests.{eqb-true, eq-eqb}
-use Rattle.mask.specs.Mask.{within, cleared}
+use Rattle.mask.specs.Mask.{within}
 use Rattle.mask.proofs.Bits.{and-assoc, and-or-distrib}
 
 pub kept : (mask v : ℕ) → within mask v ≡ true → bitAnd v mask ≡ v

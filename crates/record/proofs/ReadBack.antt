@@ -1,13 +1,13 @@
 -- Reading the twelve bytes of a record gives the record back, wherever they lie, if its fields fit their bytes.
 -- Assumes nothing.
 use Prim.Native.Nat.{ℕ, _+_, _<_}
-use mathlib.Core.Path.{_≡_, ap, refl, _∙_}
+use mathlib.Core.Path.{_≡_, refl, _∙_}
 use mathlib.Core.List.{List, _++_}
-use lib.ListN.{getD, length}
+use lib.ListN.{length}
 use lib.Seq.{getD-append-add}
 use native.Mathlib.Nat.{mod-eq-of-lt}
 use native.Mathlib.Omega.{arith}
-use Rattle.little_endian.proofs.ReadBack.{four-back, four-behind, two-back, two-behind}
+use Rattle.little_endian.proofs.ReadBack.{four-back, four-after, two-back, two-after}
 use Rattle.record.specs.Record.{bytesOf, recordAt, recordSize}
 use Rattle.record.specs.declared.Record.{Record}
 
@@ -25,17 +25,17 @@ unfolding bytesOf
 twelve-bytes r = refl
 
 -- what lies in front does not matter
-behind-front : (front bytes : List ℕ) → recordAt (front ++ bytes) (length front) ≡ recordAt bytes 0
+after-front : (front bytes : List ℕ) → recordAt (front ++ bytes) (length front) ≡ recordAt bytes 0
 unfolding recordAt
-behind-front front bytes =
+after-front front bytes =
     let z : length front + 0 ≡ length front = omega arith in
     rw (
-      rw z at (two-behind front bytes 0),
+      rw z at (two-after front bytes 0),
       getD-append-add front bytes 2 0,
       getD-append-add front bytes 3 0,
-      two-behind front bytes 4,
-      two-behind front bytes 6,
-      four-behind front bytes 8,
+      two-after front bytes 4,
+      two-after front bytes 6,
+      four-after front bytes 8,
     )
 
 at-once : (r : Record) (back : List ℕ) → Fits r → recordAt (bytesOf r ++ back) 0 ≡ r
@@ -51,4 +51,4 @@ at-once r back f =
     )
 
 pub read-back : (front back : List ℕ) (r : Record) → Fits r → recordAt (front ++ (bytesOf r ++ back)) (length front) ≡ r
-read-back front back r f = behind-front front (bytesOf r ++ back) ∙ at-once r back f
+read-back front back r f = after-front front (bytesOf r ++ back) ∙ at-once r back f

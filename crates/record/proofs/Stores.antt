@@ -1,4 +1,4 @@
--- A store behind the elements already written to the front of a list: one more is written, and the rest stays.
+-- A store right after the elements already written to the front of a list: one more is written, and the rest stays.
 -- Assumes nothing.
 use Prim.Native.Nat.{ℕ, suc, _<_}
 use mathlib.Core.Path.{_≡_}

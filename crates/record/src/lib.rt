@@ -1,6 +1,11 @@
 // The 12-byte record that scripts and images share: mark (2), kind, width, port (2), target (2), value (4), least byte
 // first.
-use little_endian::{byte0, byte1, byte2, byte3, four_at, two_at};
+use little_endian::byte0;
+use little_endian::byte1;
+use little_endian::byte2;
+use little_endian::byte3;
+use little_endian::four_at;
+use little_endian::two_at;
 ghost use mathlib.Core.Path.{_≡_};
 ghost use Prim.Native.Nat.{_+_, _≤_};
 ghost use lib.ListN.{length, drop};

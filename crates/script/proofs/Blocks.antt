@@ -2,7 +2,7 @@
 -- away. Assumes nothing.
 use Prim.Native.Nat.{ℕ, zero, suc, _+_, _-_, _≤_, _<_}
 use mathlib.Core.Path.{_≡_, sym, ap, _∙_}
-use mathlib.Core.Bool.{true, false}
+use mathlib.Core.Bool.{true, false, true≢false}
 use mathlib.Core.List.{List, [], _∷_}
 use native.Mathlib.Omega.{arith}
 use lib.ListN.{length, set, length-set}
@@ -30,5 +30,5 @@ elses blocks depth block h l = stack-set-top depth blocks block h l ∙ ap (_∷
 -- a record that has no place outside all blocks, as an else or an end, stands inside one if it is well placed
 pub inside : (blocks : List ℕ) (depth kind : ℕ) → misplaced [] kind ≡ true → misplaced (stackOf depth blocks) kind ≡ false
     → 0 < depth
-inside blocks zero kind t f = let z : _≡_ {A = ℕ} 0 1 = cc in absurd (omega arith)
+inside blocks zero kind t f = absurd (true≢false (sym t ∙ f))
 inside blocks (suc n) kind t f = omega arith

@@ -2,7 +2,7 @@
 -- nested reading. Also what the scan has made sure of, as a list with its open blocks. Assumes nothing.
 use Prim.Native.Nat.{ℕ, zero, suc, _≤_, _<_}
 use mathlib.Core.Path.{_≡_, refl, sym, ap, _∙_}
-use mathlib.Core.Bool.{Bool, true, false, cond, true≢false, _&&_, _||_}
+use mathlib.Core.Bool.{Bool, true, false, cond, true≢false, _&&_}
 use mathlib.Core.List.{List, [], _∷_}
 use borrow.Author.Tests.{eqb-true, eqb-false, leb-true, leb-false, le-ltb, ltb-false, not-false}
 use lib.Dec.{eqb, leb}
@@ -13,7 +13,7 @@ use Rattle.mask.proofs.Every.{both, neither}
 use Rattle.record.specs.declared.Record.{Record}
 use Rattle.width.specs.Width.{fitsWidth, isWidth}
 use Rattle.script.specs.Nested.{Body, done, write, read, delay, repeat, if, ifElse, Reading, top, ended, elsed, broken, before, repeated, elseTested, tested, readingOf, bodyIn, scriptRecord, elseRecord, endRecord, flat}
-use Rattle.script.specs.Fields.{countFields, noFields, readFields, valueFields}
+use Rattle.script.specs.Fields.{kindFields}
 use Rattle.script.specs.Records.{recordCount, recordsOf}
 use Rattle.script.specs.Refusals.{Refusal, badFields, badKind, badLength, firstFault, goodFields, misplaced, openAfter, recordFault, refusal, repeatsIn, scriptRefusal, tooDeep, tooManyWords, wordsIn, wrongMark}
 
@@ -58,17 +58,12 @@ pub data Accepted : List Block → List Record → Type 0 where
   ends : {b : Block} {bs : List Block} {rs : List Record} → Accepted bs rs → Accepted (b ∷ bs) (endRecord ∷ rs)
 
 -- ---- what a record without a fault shows
-abbrev kindFields : Record → Bool
-kindFields r =
-    cond (eqb (r .kind) 1 || eqb (r .kind) 5) (valueFields r)
-    (cond (eqb (r .kind) 2) (readFields r) (cond (eqb (r .kind) 3 || eqb (r .kind) 4) (countFields r) (noFields r)))
-
 record Passed (blocks : List ℕ) (r : Record) : Type 0 where
   marked : r .mark ≡ 0xA55A
   least : 1 ≤ r .kind
   most : r .kind ≤ 7
   untargeted : r .target ≡ 0
-  fields : kindFields r ≡ true
+  fields : kindFields 5 r ≡ true
   placed : misplaced blocks (r .kind) ≡ false
   shallow : tooDeep blocks (r .kind) ≡ false
 
@@ -77,7 +72,7 @@ unfolding recordFault
 passed blocks r h =
     let none = none-from (wrongMark r ∷ badKind r ∷ badFields r ∷ misplaced blocks (r .kind) ∷ tooDeep blocks (r .kind) ∷ []) 2 (omega arith) h in
     let k = both (leb 1 (r .kind)) (leb (r .kind) 7) (not-false (leb 1 (r .kind) && leb (r .kind) 7) (none 1)) in
-    let f = both (eqb (r .target) 0) (kindFields r) (not-false (goodFields r) (none 2)) in
+    let f = both (eqb (r .target) 0) (kindFields 5 r) (not-false (goodFields r) (none 2)) in
     record {
       marked = eqb-true (r .mark) 0xA55A (not-false (eqb (r .mark) 0xA55A) (none 0));
       least = leb-true 1 (r .kind) (k .0);

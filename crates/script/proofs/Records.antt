@@ -6,7 +6,7 @@ use mathlib.Core.List.{List, [], _∷_}
 use native.Mathlib.Numerals.{add-one}
 use native.Mathlib.Omega.{arith}
 use borrow.Author.Tests.{ltb-false}
-use lib.Dec.{eqb, ltb}
+use lib.Dec.{eqb}
 use lib.ListN.{length}
 use Rattle.mask.proofs.Every.{neither}
 use Rattle.record.specs.Record.{recordAt, recordSize}
@@ -29,8 +29,13 @@ behind-last bytes count k h =
 pub few-records : (bytes : List ℕ) → badLength bytes ≡ false → recordCount bytes ≤ 1024
 few-records bytes h = ltb-false 1024 (recordCount bytes) (neither (not (eqb (length bytes % recordSize) 0)) _ h .1)
 
+-- so many records are allowed, and lie in the script
+pub record Counted (script : List ℕ) (count : ℕ) : Type 0 where
+  pub few : count ≤ 1024
+  pub lies : recordSize * count ≤ length script
+
 pub counts : (script : List ℕ) (count : ℕ) → count ≡ recordCount script → scriptRefusal script .number ≡ 0
-    → (count ≤ 1024) × (recordSize * count ≤ length script)
+    → Counted script count
 counts script count e h =
     let l = few-records script (accepts script h .length-good) in
-    (omega arith, omega arith)
+    record { few = omega arith; lies = omega arith }

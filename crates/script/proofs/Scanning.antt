@@ -2,14 +2,14 @@
 -- record the fault and the words of the whole script are those of the records left (`Going`): a fault ends the scan with its
 -- number and place, a good record leaves the same for the next, and behind the last one only a block still open is a fault.
 -- Assumes nothing.
-use Prim.Native.Nat.{ℕ, zero, suc, _+_, _-_, _*_, _%_, _≤_, _<_}
+use Prim.Native.Nat.{ℕ, zero, suc, _+_, _-_, _*_, _≤_, _<_}
 use mathlib.Core.Path.{_≡_, refl, sym, ap, _∙_}
-use mathlib.Core.Bool.{Bool, true, false, cond, not, _&&_, _||_, or-true}
+use mathlib.Core.Bool.{Bool, true, false, cond, _&&_, _||_, or-true}
 use mathlib.Core.List.{List, [], _∷_}
 use native.Mathlib.Numerals.{add-one}
 use native.Mathlib.Omega.{arith}
-use borrow.Author.Tests.{ne-eqb, le-leb, le-ltb, lt-leb, lt-ltb, eqb-false, eqb-true, ltb-false}
-use lib.Dec.{eqb, leb, ltb}
+use borrow.Author.Tests.{ne-eqb, le-leb, le-ltb, lt-leb, lt-ltb, eqb-false, eqb-true}
+use lib.Dec.{eqb, leb}
 use lib.ListN.{length, getD}
 use Rattle.lists.specs.Stack.{stackOf}
 use Rattle.lists.proofs.Stack.{stack-length}

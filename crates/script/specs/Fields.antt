@@ -21,3 +21,9 @@ countFields r = eqb (r .width) 0 && (eqb (r .port) 0 && leb (r .value) 65535)
 -- none: else, end; words 5, 7 and 8
 abbrev pub noFields : Record → Bool
 noFields r = eqb (r .width) 0 && (eqb (r .port) 0 && eqb (r .value) 0)
+
+-- by the kind; the kind that tests is 5 in a script, if, and 6 in an image, test
+abbrev pub kindFields : ℕ → Record → Bool
+kindFields tests r =
+    cond (eqb (r .kind) 1 || eqb (r .kind) tests) (valueFields r)
+    (cond (eqb (r .kind) 2) (readFields r) (cond (eqb (r .kind) 3 || eqb (r .kind) 4) (countFields r) (noFields r)))

@@ -1,13 +1,13 @@
 -- Document 01's refusal table, rows 1 to 8, each its own definition, and the order in which they are given.
-use Prim.Native.Nat.{ℕ, suc, _+_, _-_, _%_}
-use mathlib.Core.Bool.{Bool, true, false, cond, not, _&&_, _||_}
+use Prim.Native.Nat.{ℕ, suc, _%_}
+use mathlib.Core.Bool.{Bool, cond, not, _&&_, _||_}
 use mathlib.Core.List.{List, [], _∷_}
 use lib.Dec.{eqb, leb, ltb}
 use lib.ListN.{length}
 use Rattle.lists.specs.Tests.{firstFrom}
 use Rattle.record.specs.Record.{recordSize}
 use Rattle.record.specs.declared.Record.{Record}
-use Rattle.script.specs.Fields.{countFields, noFields, readFields, valueFields}
+use Rattle.script.specs.Fields.{kindFields}
 use Rattle.script.specs.Records.{recordCount, recordsOf}
 
 -- 1: "script length no multiple of 12, or over 1,024 records (0)"
@@ -24,10 +24,7 @@ badKind r = not (leb 1 (r .kind) && leb (r .kind) 7)
 
 -- 4: "bad width, value or unused field". Kinds: 1 write, 2 read, 3 delay, 4 repeat, 5 if, 6 else, 7 end
 abbrev pub goodFields : Record → Bool
-goodFields r =
-    eqb (r .target) 0
-    && cond (eqb (r .kind) 1 || eqb (r .kind) 5) (valueFields r)
-    (cond (eqb (r .kind) 2) (readFields r) (cond (eqb (r .kind) 3 || eqb (r .kind) 4) (countFields r) (noFields r)))
+goodFields r = eqb (r .target) 0 && kindFields 5 r
 
 abbrev pub badFields : Record → Bool
 badFields r = not (goodFields r)

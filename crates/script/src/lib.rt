@@ -7,7 +7,7 @@ ghost use lib.Dec.{eqb};
 ghost use lib.ListN.{length};
 ghost use Rattle.lists.specs.Stack.{stackOf};
 ghost use Rattle.record.specs.Record.{recordSize};
-ghost use Rattle.script.specs.Fields.{valueFields, readFields, countFields, noFields};
+ghost use Rattle.script.specs.Fields.{valueFields, readFields, countFields, noFields, kindFields};
 ghost use Rattle.script.specs.Refusals.{badLength, goodFields, innermost, misplaced, openAfter, givesWord};
 ghost use Rattle.script.specs.Scan.{
   Kept,
@@ -93,29 +93,30 @@ pub fn no_fields(r: Record) -> bool
     r.value == 0
 }
 
+// The fields of a kind that scripts and images share; `tests` is the kind that reads and tests, 5 in a script and 6 in an image.
+pub fn kind_fields(r: Record, tests: u32) -> bool
+    ensures { λ b. ⌜ b ≡ kindFields tests r ⌝ }
+{
+    let kind = r.kind;
+    if kind == tests {
+        return value_fields(r);
+    }
+    match kind {
+        WRITE => value_fields(r),
+        READ => read_fields(r),
+        DELAY => count_fields(r),
+        REPEAT => count_fields(r),
+        _ => no_fields(r),
+    }
+}
+
 fn good_fields(r: Record) -> bool
     ensures { λ b. ⌜ b ≡ goodFields r ⌝ }
 {
-    let kind = r.kind;
     if r.target != 0 {
         return false;
     }
-    if kind == WRITE {
-        return value_fields(r);
-    }
-    if kind == IF {
-        return value_fields(r);
-    }
-    if kind == READ {
-        return read_fields(r);
-    }
-    if kind == DELAY {
-        return count_fields(r);
-    }
-    if kind == REPEAT {
-        return count_fields(r);
-    }
-    no_fields(r)
+    kind_fields(r, IF)
 }
 
 // What a record shows by itself: 2, 3 or 4, or 0.

@@ -1,6 +1,6 @@
 -- Document 01, "What the chip model holds": "An access is a read or write of width 1, 2 or 4 bytes".
 use Prim.Native.Nat.{ℕ}
-use mathlib.Core.Bool.{Bool, true, false, cond, _||_}
+use mathlib.Core.Bool.{Bool, cond, _||_}
 use lib.Dec.{leb, eqb}
 
 abbrev pub isWidth : ℕ → Bool

@@ -1,5 +1,5 @@
 -- `script::shape_fault` meets its contract. Assumes nothing.
-use borrow.Author.Tests.{eq-eqb, le-leb, le-ltb, lt-leb, lt-ltb, ne-eqb}
+use borrow.Author.Tests.{eq-eqb, le-leb, lt-leb, ne-eqb}
 use Rattle.script.specs.Scan.{shapeFault}
 use borrow.Author.Needs.{needs}
 use Rattle.script.proofs.shape_fault.Statement.{statement}
@@ -13,7 +13,6 @@ returns-2 : tie.Need-returns-2
 unfolding shapeFault
 returns-2 c = simp (
   eq-eqb _ _ (c .before .before .if1 .left),
-  lt-ltb _ _ (c .if2 .taken),
   lt-leb _ _ (c .if2 .taken),
 )
 
@@ -21,9 +20,7 @@ returns-3 : tie.Need-returns-3
 unfolding shapeFault
 returns-3 c = simp (
   eq-eqb _ _ (c .before .before .before .before .if1 .left),
-  le-ltb _ _ (c .before .before .if2 .left),
   le-leb _ _ (c .before .before .if2 .left),
-  lt-ltb _ _ (c .if3 .taken),
   lt-leb _ _ (c .if3 .taken),
 )
 
@@ -34,9 +31,7 @@ returns-4 : tie.Need-returns-4
 unfolding shapeFault
 returns-4 c = simp (
   eq-eqb _ _ (c .before .before .before .before .before .before .if1 .left),
-  le-ltb _ _ (c .before .before .before .before .if2 .left),
   le-leb _ _ (c .before .before .before .before .if2 .left),
-  le-ltb _ _ (c .before .before .if3 .left),
   le-leb _ _ (c .before .before .if3 .left),
   ← (c .before .good-fields .ensures),
   c .if4 .taken,
@@ -46,9 +41,7 @@ returns-5 : tie.Need-returns-5
 unfolding shapeFault
 returns-5 c = simp (
   eq-eqb _ _ (c .before .before .before .before .before .before .if1 .left),
-  le-ltb _ _ (c .before .before .before .before .if2 .left),
   le-leb _ _ (c .before .before .before .before .if2 .left),
-  le-ltb _ _ (c .before .before .if3 .left),
   le-leb _ _ (c .before .before .if3 .left),
   ← (c .before .good-fields .ensures),
   c .if4 .left,
