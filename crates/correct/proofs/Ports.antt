@@ -26,7 +26,7 @@ Ports (r ∷ rs) = (r .port < 65536) × Ports rs
 
 record-port : (bytes : List ℕ) (at : ℕ) → Bytes bytes → recordAt bytes at .port < 65536
 unfolding recordAt
-record-port bytes at h = omega (arith, h (at + 4), h (at + 5))
+record-port bytes at h = omega (arith, h (at + 4), h (at + 4 + 1))
 
 ports-from : (n place : ℕ) (bytes : List ℕ) → Bytes bytes → Ports (recordsFrom n place bytes)
 ports-from zero place bytes h = tt

@@ -3,9 +3,8 @@
 use Prim.Native.Nat.{ℕ, _+_, _<_}
 use mathlib.Core.Path.{_≡_, refl, ap, sym, _∙_}
 use mathlib.Core.Bool.{Bool, true}
-use mathlib.Core.List.{List, _++_}
-use lib.ListN.{drop, getD, length, length-append, take}
-use lib.Seq.{take-all}
+use mathlib.Core.List.{List, [], _∷_, _++_}
+use lib.ListN.{drop, getD, length, length-append, length-drop}
 use native.Mathlib.Omega.{arith}
 use borrow.Author.Tests.{eq-eqb}
 use Rattle.acpi.proofs.Saved as of-acpi
@@ -23,6 +22,7 @@ use Rattle.state.specs.State.{
   acpiStart,
   deviceFrom,
   isSaved,
+  savedTests,
   keyStart,
   loaded,
   loadedFrom,
@@ -40,30 +40,40 @@ pub record Typed (d : Device) : Type 0 where
   pub monitor : of-monitor.Typed (d .monitor)
   pub acpi : of-acpi.Typed (d .acpi)
 
+-- the bytes after the configuration's, the key's and the monitor's
+abbrev afterMonitor : Device → List ℕ
+afterMonitor d = acpiBytes (d .acpi)
+
+abbrev afterKey : Device → List ℕ
+afterKey d = monitorBytes (d .monitor) ++ afterMonitor d
+
+abbrev afterConfig : Device → List ℕ
+afterConfig d = keyBytes (d .key) ++ afterKey d
+
 module _ (d : Device) where
   config-part : part 0 9 (stateBytes d) ≡ configBytes (d .config)
   unfolding stateBytes
-  config-part = front-part (configBytes (d .config)) _ 9 (of-config.bytes-length (d .config))
+  config-part = front-part (configBytes (d .config)) (afterConfig d) 9 (of-config.bytes-length (d .config))
 
   key-part : part keyStart 32 (stateBytes d) ≡ keyBytes (d .key)
   unfolding stateBytes
   key-part =
-      later-part (configBytes (d .config)) _ 9 0 32 (of-config.bytes-length (d .config))
-      ∙ front-part (keyBytes (d .key)) _ 32 (of-key.bytes-length (d .key))
+      later-part (configBytes (d .config)) (afterConfig d) 9 0 32 (of-config.bytes-length (d .config))
+      ∙ front-part (keyBytes (d .key)) (afterKey d) 32 (of-key.bytes-length (d .key))
 
   monitor-part : part monitorStart 20 (stateBytes d) ≡ monitorBytes (d .monitor)
   unfolding stateBytes
   monitor-part =
-      later-part (configBytes (d .config)) _ 9 32 20 (of-config.bytes-length (d .config))
-      ∙ later-part (keyBytes (d .key)) _ 32 0 20 (of-key.bytes-length (d .key))
-      ∙ front-part (monitorBytes (d .monitor)) _ 20 (of-monitor.bytes-length (d .monitor))
+      later-part (configBytes (d .config)) (afterConfig d) 9 32 20 (of-config.bytes-length (d .config))
+      ∙ later-part (keyBytes (d .key)) (afterKey d) 32 0 20 (of-key.bytes-length (d .key))
+      ∙ front-part (monitorBytes (d .monitor)) (afterMonitor d) 20 (of-monitor.bytes-length (d .monitor))
 
   acpi-part : part acpiStart 45 (stateBytes d) ≡ acpiBytes (d .acpi)
   unfolding stateBytes
   acpi-part =
-      later-part (configBytes (d .config)) _ 9 52 45 (of-config.bytes-length (d .config))
-      ∙ later-part (keyBytes (d .key)) _ 32 20 45 (of-key.bytes-length (d .key))
-      ∙ later-part (monitorBytes (d .monitor)) _ 20 0 45 (of-monitor.bytes-length (d .monitor))
+      later-part (configBytes (d .config)) (afterConfig d) 9 52 45 (of-config.bytes-length (d .config))
+      ∙ later-part (keyBytes (d .key)) (afterKey d) 32 20 45 (of-key.bytes-length (d .key))
+      ∙ later-part (monitorBytes (d .monitor)) (afterMonitor d) 20 0 45 (of-monitor.bytes-length (d .monitor))
       ∙ whole-part (acpiBytes (d .acpi)) 45 (of-acpi.bytes-length (d .acpi))
 
   pub state-length : length (stateBytes d) ≡ stateSize
@@ -82,7 +92,7 @@ module _ (d : Device) where
   pub state-saved : isSaved (stateBytes d) ≡ true
   state-saved =
       rw (config-part, monitor-part, acpi-part)
-      (all-hold _ (of-config.bytes-saved (d .config), (of-monitor.bytes-saved (d .monitor), (of-acpi.bytes-saved (d .acpi), tt))))
+      (all-hold (configSaved (configBytes (d .config)) ∷ monitorSaved (monitorBytes (d .monitor)) ∷ acpiSaved (acpiBytes (d .acpi)) ∷ []) (of-config.bytes-saved (d .config), (of-monitor.bytes-saved (d .monitor), (of-acpi.bytes-saved (d .acpi), tt))))
 
   pub device-back : Typed d → deviceFrom (stateBytes d) ≡ d
   device-back t =
@@ -106,20 +116,24 @@ module _ (d : Device) where
       ∙ ap {B = Loaded} (λ (e : Device). record { valid = true; device = e }) (device-back t))
 
 -- ---- loaded, then saved
+four-equal : {a b c d a′ b′ c′ d′ : List ℕ} → a ≡ a′ → b ≡ b′ → c ≡ c′ → d ≡ d′
+    → a ++ (b ++ (c ++ d)) ≡ a′ ++ (b′ ++ (c′ ++ d′))
+four-equal p q r s = rw (p, q, r, s)
+
 module _ (bs : List ℕ) (n : length bs ≡ stateSize) where
   joined : part 0 9 bs ++ (part keyStart 32 bs ++ (part monitorStart 20 bs ++ part acpiStart 45 bs)) ≡ bs
   joined =
-      let last : part acpiStart 45 bs ≡ drop acpiStart bs = whole-part (drop acpiStart bs) 45 _ in
+      let size : length (drop acpiStart bs) ≡ 45 = length-drop acpiStart bs ∙ omega (arith, n) in
+      let last : part acpiStart 45 bs ≡ drop acpiStart bs = whole-part (drop acpiStart bs) 45 size in
       rw (last, cut monitorStart 20 bs, cut keyStart 32 bs, cut 0 9 bs)
 
   pub bytes-back : ((k : ℕ) → getD bs k 0 < 256) → isSaved bs ≡ true → stateBytes (deviceFrom bs) ≡ bs
   unfolding stateBytes
   bytes-back byte saved =
-      let s = all-held _ saved in
-      rw (
-        of-config.save-back (part 0 9 bs) (part-length 0 9 bs (omega arith)) (part-bytes 0 9 bs byte) (s .0),
-        of-key.save-back (part keyStart 32 bs) (part-length keyStart 32 bs (omega arith)),
-        of-monitor.save-back (part monitorStart 20 bs) (part-length monitorStart 20 bs (omega arith)) (part-bytes monitorStart 20 bs byte) (s .1 .0),
-        of-acpi.save-back (part acpiStart 45 bs) (part-length acpiStart 45 bs (omega arith)) (part-bytes acpiStart 45 bs byte) (s .1 .1 .0),
-      )
-      joined
+      let s = all-held (savedTests bs) saved in
+      four-equal
+      (of-config.save-back (part 0 9 bs) (part-length 0 9 bs (omega (arith, n))) (part-bytes 0 9 bs byte) (s .0))
+      (of-key.save-back (part keyStart 32 bs) (part-length keyStart 32 bs (omega (arith, n))))
+      (of-monitor.save-back (part monitorStart 20 bs) (part-length monitorStart 20 bs (omega (arith, n))) (part-bytes monitorStart 20 bs byte) (s .1 .0))
+      (of-acpi.save-back (part acpiStart 45 bs) (part-length acpiStart 45 bs (omega (arith, n))) (part-bytes acpiStart 45 bs byte) (s .1 .1 .0))
+      ∙ joined

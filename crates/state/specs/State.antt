@@ -45,12 +45,12 @@ deviceFrom bytes = record {
 }
 
 -- can a device hold these bytes? Any bytes are key bytes
+abbrev pub savedTests : List ℕ → List Bool
+savedTests bytes =
+    configSaved (part 0 9 bytes) ∷ monitorSaved (part monitorStart 20 bytes) ∷ acpiSaved (part acpiStart 45 bytes) ∷ []
+
 abbrev pub isSaved : List ℕ → Bool
-isSaved bytes =
-    allHold
-    (configSaved (part 0 9 bytes)
-    ∷ monitorSaved (part monitorStart 20 bytes)
-    ∷ acpiSaved (part acpiStart 45 bytes) ∷ [])
+isSaved bytes = allHold (savedTests bytes)
 
 unfoldable pub loadedFrom : List ℕ → Loaded
 loadedFrom bytes = record { valid = isSaved bytes; device = deviceFrom bytes }

@@ -46,29 +46,15 @@ pub fn bytes_of(device: Device) -> [u8; SIZE]
     bytes
 }
 
-// Can a device hold these bytes?
-fn is_saved(config: &[u8], monitor: &[u8], acpi: &[u8]) -> bool
-    requires { ⌜ (length (now config) ≡ 9) × (length (now monitor) ≡ 20) × (length (now acpi) ≡ 45) ⌝ }
-    ensures { λ r. ⌜ r ≡ allHold (configSaved (now (config .entry)) ∷ monitorSaved (now (monitor .entry)) ∷ acpiSaved (now (acpi .entry)) ∷ []) ⌝ }
-{
-    if !Config::is_saved(config) {
-        return false;
-    }
-    if !Monitor::is_saved(monitor) {
-        return false;
-    }
-    Acpi::is_saved(acpi)
-}
-
 fn read_from(bytes: &[u8]) -> Loaded
     requires { ⌜ length (now bytes) ≡ stateSize ⌝ }
     ensures { λ r. ⌜ r ≡ loadedFrom (now (bytes .entry)) ⌝ }
 {
-    let config = &bytes[..KEY_START];
+    let config = &bytes[0..KEY_START];
     let key = &bytes[KEY_START..MONITOR_START];
     let monitor = &bytes[MONITOR_START..ACPI_START];
-    let acpi = &bytes[ACPI_START..];
-    let valid = is_saved(config, monitor, acpi);
+    let acpi = &bytes[ACPI_START..SIZE];
+    let valid = Config::is_saved(config) & (Monitor::is_saved(monitor) & Acpi::is_saved(acpi));
     let device = Device {
         config: Config::from_bytes(config),
         acpi: Acpi::from_bytes(acpi),
