@@ -3,37 +3,32 @@
 use mathlib.Core.Path.{_≡_, refl}
 use mathlib.Core.Bool.{true}
 use Rattle.access.specs.Status.{readGives}
-use Rattle.acpi.specs.Happen.{ticked}
+use Rattle.acpi.specs.Acpi.{acpiAccess, acpiEvent, acpiReset, acpiSettle}
+use Rattle.acpi.specs.Event.{ticked}
 use Rattle.acpi.specs.Registers.{
-  acpiRead,
-  acpiWritten,
-  controlWritten as acpiControl,
-  registerWritten as acpiRegister,
+  controlWrite as acpiControl,
+  registerRead as acpiRead,
+  registerValue,
+  registerWrite as acpiWrite,
   takes,
 }
-use Rattle.acpi.specs.Settle.{pending, sciOn, settled, smiOn, woken}
-use Rattle.acpi.specs.Setup.{setupIndexWritten}
+use Rattle.acpi.specs.Settle.{pending, sciOn, smiOn, wake}
+use Rattle.acpi.specs.Setup.{setupIndexWrite}
 use Rattle.config.specs.Config.{
-  configDataRead,
-  configDataWritten,
-  configIndexWritten,
-  controlWritten,
+  configAccess,
+  controlWrite,
+  dataRead,
+  dataWrite,
+  indexWrite,
   registerRead,
-  registerWritten,
+  registerWrite,
 }
-use Rattle.config.specs.Key.{keyRead, keyWritten}
-use Rattle.monitor.specs.Monitor.{freshMonitor, monitorDataRead, monitorDataWritten}
-use Rattle.monitor.specs.Table.{kindOf, resetOf, slotOf}
-use Rattle.device.specs.Event.{applyEvent, moved, resetBy}
-use Rattle.device.specs.Owner.{keyClaims, monitorClaims, owner, taker}
-use Rattle.device.specs.Dispatch.{
-  deviceAccess,
-  acpiReached,
-  configReached,
-  keyReached,
-  monitorReached,
-  reached,
-}
+use Rattle.key.specs.Key.{keyAccess, keyRead, keyWrite}
+use Rattle.monitor.specs.Monitor.{dataRead as monitorRead, lockableWrite, monitorAccess, writeAs}
+use Rattle.device.specs.Device.{resetDevice}
+use Rattle.device.specs.Dispatch.{deviceAccess, dispatch}
+use Rattle.device.specs.Event.{applyEvent, eventBlock, eventEffect}
+use Rattle.device.specs.Owner.{keyClaims, monitorClaims, owner}
 use Rattle.compiler.specs.Words.{wordsOf}
 use Rattle.record.specs.Record.{bytesOf, recordAt}
 use Rattle.script.specs.Nested.{scriptBody}
@@ -44,16 +39,16 @@ use Rattle.semantics.specs.World.{readLogged, sharesOne, tested, valueRead, wri
 use Rattle.sequencer.specs.Run.{imageRun}
 use Rattle.machine.specs.Step.{did, stepOf, wordFault}
 use Rattle.machine.specs.Word.{badWord}
-use Rattle.correct.specs.Cases.{cases, every, p1, p2, p3, p4, p5, p6, p7, p8, p9, p10, p11}
+use Rattle.lists.specs.Tests.{allHold}
+use Rattle.correct.specs.Cases.{cases, p1, p2, p3, p4, p5, p6, p7, p8, p9, p10, p11}
 
-pub all-hold : every cases ≡ true
+pub cases-hold : allHold cases ≡ true
 unfolding p1 p2 p3 p4 p5 p6 p7 p8 p9 p10 p11
-    deviceAccess reached configReached acpiReached monitorReached keyReached readGives
-    owner taker keyClaims monitorClaims applyEvent moved resetBy
-    configDataRead registerRead configIndexWritten configDataWritten registerWritten controlWritten keyRead keyWritten
-    freshMonitor monitorDataRead monitorDataWritten kindOf resetOf slotOf
-    takes acpiRead acpiWritten acpiRegister acpiControl setupIndexWritten
-    ticked settled woken pending sciOn smiOn
+    deviceAccess dispatch readGives owner keyClaims monitorClaims applyEvent eventEffect eventBlock resetDevice
+    configAccess dataRead registerRead indexWrite dataWrite registerWrite controlWrite keyAccess keyRead keyWrite
+    monitorAccess monitorRead writeAs lockableWrite
+    acpiAccess acpiEvent acpiReset acpiSettle takes acpiRead registerValue acpiWrite acpiControl setupIndexWrite
+    ticked wake pending sciOn smiOn
     bytesOf recordAt recordsOf scriptRefusal recordFault scriptBody wordsOf
     scriptRun written readLogged tested sharesOne valueRead imageRun stepOf did wordFault badWord
-all-hold = refl
+cases-hold = refl

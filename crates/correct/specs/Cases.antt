@@ -5,25 +5,24 @@ use mathlib.Core.Bool.{Bool, true, false, not, _&&_}
 use mathlib.Core.List.{List, [], _∷_, _++_}
 use lib.Dec.{eqb}
 use lib.ListN.{getD}
-use Rattle.acpi.specs.Block.{freshAcpi}
+use Rattle.acpi.specs.Acpi.{freshAcpi}
 use Rattle.acpi.specs.Fields.{withPm1en, withPm1sts, withScien, withSetupidx, withTimer}
 use Rattle.acpi.specs.Settle.{pending, sciOn}
 use Rattle.acpi.specs.declared.Acpi.{Acpi}
 use Rattle.compiler.specs.Words.{imageBytes, word, wordsOf}
-use Rattle.config.specs.Config.{
-  freshConfig,
+use Rattle.config.specs.Config.{freshConfig}
+use Rattle.config.specs.Fields.{
   withActivate,
   withControl,
   withIndex,
-  withKey,
+  withKeyBase,
   withNumber,
-  withRuntime,
+  withRuntimeBase,
   withUnlocked,
 }
 use Rattle.config.specs.declared.Config.{Config}
 use Rattle.mask.specs.Mask.{hasBit}
 use Rattle.monitor.specs.Monitor.{freshMonitor, lockSet, register, stored}
-use Rattle.monitor.specs.Table.{slotOf}
 use Rattle.monitor.specs.declared.Monitor.{Monitor}
 use Rattle.device.specs.Device.{freshDevice, withAcpi, withConfig, withMonitor}
 use Rattle.device.specs.Event.{applyEvent}
@@ -75,7 +74,7 @@ p2 =
 -- ---- P3 key base 0020h, active: 0020h is key byte 0, 002Eh configuration; the fresh key control is write-locked, so it
 -- is 00h here
 abbrev keyed : Device
-keyed = configured (withControl (withKey (withActivate freshConfig 0x01) 0x0020) 0x00)
+keyed = configured (withControl (withKeyBase (withActivate freshConfig 0x01) 0x0020) 0x00)
 
 abbrev keyWrite : AccessResult
 keyWrite = writing keyed 1 0x0020 0x5A
@@ -92,11 +91,11 @@ p3 =
 
 -- ---- P4 Lock set: 7Eh write status 2; 83h holding 03h, written 03h, becomes 00h
 abbrev watched : Monitor → Device
-watched m = withMonitor (configured (withRuntime (withActivate freshConfig 0x01) 0x0400)) m
+watched m = withMonitor (configured (withRuntimeBase (withActivate freshConfig 0x01) 0x0400)) m
 
 -- Lock is bit 1 of 40h
 abbrev lockedMonitor : Device
-lockedMonitor = watched (stored (stored freshMonitor (slotOf 0x40) 0x02) (slotOf 0x83) 0x03)
+lockedMonitor = watched (stored (stored freshMonitor 0x40 0x02) 0x83 0x03)
 
 -- a write of a monitor register: its index, then the data
 abbrev monitorWrite : ℕ → ℕ → AccessResult
@@ -217,7 +216,3 @@ p11 =
 
 abbrev pub cases : List Bool
 cases = p1 ∷ p2 ∷ p3 ∷ p4 ∷ p5 ∷ p6 ∷ p7 ∷ p8 ∷ p9 ∷ p10 ∷ p11 ∷ []
-
-abbrev pub every : List Bool → Bool
-every [] = true
-every (c ∷ cs) = c && every cs
