@@ -34,12 +34,19 @@ unfolding dispatch
 dispatch-orderly d x =
     let nobody : OrderlyResult d x _ = record { unchanged = λ n. refl; write-zero = λ e. refl } in
     let g = d .config in
-    at-any (OrderlyResult d x) nobody (answers d x)
-    (nobody
-    , (by-block (withConfig d) refl (config-orderly g (x .port - configPort) x)
-    , (by-block (withAcpi d) refl (acpi-orderly (d .acpi) (x .port - acpiPort) x)
-    , (by-block (withMonitor d) refl (monitor-orderly (d .monitor) (x .port - monitorPort g) x)
-    , (by-block (withKey d) refl (key-orderly (d .key) (g .control) (x .port - keyPort g) x), tt)))))
+    at-any (OrderlyResult d x) nobody (answers d x) (
+      nobody,
+      (
+        by-block (withConfig d) refl (config-orderly g (x .port - configPort) x),
+        (
+          by-block (withAcpi d) refl (acpi-orderly (d .acpi) (x .port - acpiPort) x),
+          (
+            by-block (withMonitor d) refl (monitor-orderly (d .monitor) (x .port - monitorPort g) x),
+            (by-block (withKey d) refl (key-orderly (d .key) (g .control) (x .port - keyPort g) x), tt),
+          ),
+        ),
+      ),
+    )
     (owner g (x .port))
 
 -- a write and a read are answered with the owner's status

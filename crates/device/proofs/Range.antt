@@ -90,11 +90,16 @@ module _ (d : Device) (h : InRange d) where
   dispatch-in-range x =
       let b = blocks d h in
       let g = d .config in
-      at-any (λ (r : AccessResult). InRange (r .device)) h (answers d x)
-      (h
-      , (with-config _ (in-config.access-in-range g (x .port - configPort) x (b .config))
-      , (with-acpi _ (in-acpi.access-in-range (d .acpi) (b .acpi) (x .port - acpiPort) x)
-      , (with-monitor _ (in-monitor.access-in-range (d .monitor) (b .monitor) (x .port - monitorPort g) x) , (with-key _, tt)))))
+      at-any (λ (r : AccessResult). InRange (r .device)) h (answers d x) (
+        h,
+        (
+          with-config _ (in-config.access-in-range g (x .port - configPort) x (b .config)),
+          (
+            with-acpi _ (in-acpi.access-in-range (d .acpi) (b .acpi) (x .port - acpiPort) x),
+            (with-monitor _ (in-monitor.access-in-range (d .monitor) (b .monitor) (x .port - monitorPort g) x), (with-key _, tt)),
+          ),
+        ),
+      )
       (owner g (x .port))
 
   -- ---- an event

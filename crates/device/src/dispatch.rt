@@ -6,7 +6,8 @@ ghost use Rattle.device.specs.Dispatch.{accessResult, answerGiven, devic
 ghost use Rattle.device.specs.Device.{settleDevice};
 use crate::AccessResult;
 use crate::Device;
-use crate::owner::{monitor_port, owner};
+use crate::owner::monitor_port;
+use crate::owner::owner;
 
 // A read gives what its status says; a write's answer is the owner's.
 fn answer_given(access: Access, answer: Answer) -> Answer
@@ -52,14 +53,14 @@ impl Device {
                 self.answered(access, r.answer)
             }
             Device::MONITOR => {
-                let r = self.monitor.access(access.port - monitor_port(config), access);
+                let r = self.monitor
+                    .access(access.port - monitor_port(config), access);
                 let block = r.block;
                 self.monitor = block;
                 self.answered(access, r.answer)
             }
             Device::KEY => {
-                let r = self
-                    .key
+                let r = self.key
                     .access(config.control, access.port - config.key_base(), access);
                 let block = r.block;
                 self.key = block;

@@ -87,7 +87,8 @@ module _ (m : Monitor) (h : monitorInRange m ≡ true) where
     write-in-range kind e =
         branch-on Kept (eqb kind lock)
         (λ t. lockable-in-range i (changes lock t (omega arith)) (bitOr (register m i) (bitAnd v (maskOf i)))
-        (within-or (maskOf i) (register m i) (bitAnd v (maskOf i)) (register-within i (changes lock t (omega arith))) masked))
+        (within-or (maskOf i) (register m i) (bitAnd v (maskOf i)) (register-within i (changes lock t (omega arith)))
+        masked))
         (λ _. branch Kept (eqb kind readOnly) h
         (branch-on Kept (eqb kind lockable)
         (λ t. lockable-in-range i (changes lockable t (omega arith)) (bitAnd v (maskOf i)) masked)

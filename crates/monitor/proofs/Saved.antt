@@ -1,5 +1,5 @@
--- A monitor that is saved and loaded is the same again, and bytes of a monitor are saved as they were loaded; each byte is what
--- its register reads. Assumes nothing.
+-- A monitor that is saved and loaded is the same again, bytes of a monitor are saved as they were loaded, and each byte is
+-- what its register reads. Assumes nothing.
 use Prim.Native.Nat.{ℕ, suc, _<_}
 use mathlib.Core.Path.{_≡_, refl, sym, ap, _∙_}
 use mathlib.Core.Bool.{true, not}

@@ -12,22 +12,28 @@ impl Monitor {
         ensures { λ r. ⌜ r ≡ monitorBytes self ⌝ }
     {
         let registers = self.registers;
+        let resets = Monitor::READ_ONLY_RESET;
         [
             self.index,
+            // 40h
             registers[0],
-            Monitor::RESET[0x6E],
-            Monitor::RESET[0x6F],
+            // 6Eh, 6Fh
+            resets[0],
+            resets[1],
+            // 7Ch, 7Eh, 80h to 83h
             registers[1],
             registers[2],
             registers[3],
             registers[4],
             registers[5],
             registers[6],
-            Monitor::RESET[0x84],
-            Monitor::RESET[0x85],
-            Monitor::RESET[0x86],
-            Monitor::RESET[0x87],
-            Monitor::RESET[0x88],
+            // 84h to 88h
+            resets[2],
+            resets[3],
+            resets[4],
+            resets[5],
+            resets[6],
+            // 90h, 91h, B5h to B7h
             registers[7],
             registers[8],
             registers[9],
@@ -43,13 +49,16 @@ impl Monitor {
         Monitor {
             index: bytes[0],
             registers: [
+                // 40h
                 bytes[1],
+                // 7Ch, 7Eh, 80h to 83h
                 bytes[4],
                 bytes[5],
                 bytes[6],
                 bytes[7],
                 bytes[8],
                 bytes[9],
+                // 90h, 91h, B5h to B7h
                 bytes[15],
                 bytes[16],
                 bytes[17],
@@ -64,12 +73,13 @@ impl Monitor {
         requires { ⌜ length (now bytes) ≡ 20 ⌝ }
         ensures { λ r. ⌜ r ≡ monitorSaved (now (bytes .entry)) ⌝ }
     {
-        (bytes[2] == Monitor::RESET[0x6E])
-            & (bytes[3] == Monitor::RESET[0x6F])
-            & (bytes[10] == Monitor::RESET[0x84])
-            & (bytes[11] == Monitor::RESET[0x85])
-            & (bytes[12] == Monitor::RESET[0x86])
-            & (bytes[13] == Monitor::RESET[0x87])
-            & (bytes[14] == Monitor::RESET[0x88])
+        let resets = Monitor::READ_ONLY_RESET;
+        (bytes[2] == resets[0])
+            & (bytes[3] == resets[1])
+            & (bytes[10] == resets[2])
+            & (bytes[11] == resets[3])
+            & (bytes[12] == resets[4])
+            & (bytes[13] == resets[5])
+            & (bytes[14] == resets[6])
     }
 }

@@ -26,7 +26,7 @@ ghost use Rattle.monitor.specs.Monitor.{
   monitorEvent,
   interrupt,
 };
-ghost use Rattle.monitor.specs.Table.{slotOf};
+ghost use Rattle.monitor.specs.Table.{kindOf, maskOf, resetOf, slotOf};
 
 // What can change is stored: the registers at 40h, 7Ch, 7Eh, 80h to 83h, 90h, 91h and B5h to B7h, in this order.
 pub struct Monitor {
@@ -111,20 +111,7 @@ impl Monitor {
     {
         Monitor {
             index: 0,
-            registers: [
-                Monitor::RESET[0x40],
-                Monitor::RESET[0x7C],
-                Monitor::RESET[0x7E],
-                Monitor::RESET[0x80],
-                Monitor::RESET[0x81],
-                Monitor::RESET[0x82],
-                Monitor::RESET[0x83],
-                Monitor::RESET[0x90],
-                Monitor::RESET[0x91],
-                Monitor::RESET[0xB5],
-                Monitor::RESET[0xB6],
-                Monitor::RESET[0xB7],
-            ],
+            registers: Monitor::STORED_RESET,
         }
     }
 
@@ -138,23 +125,18 @@ impl Monitor {
         }
     }
 
-    // Every register within its mask. Each index is a constant, so that no table is laid out for it.
+    // Every register within its mask.
     pub fn in_range(self) -> bool
         ensures { λ r. ⌜ r ≡ monitorInRange self ⌝ }
     {
         let registers = self.registers;
-        (registers[0] & Monitor::MASK[0x40] == registers[0])
-            & (registers[1] & Monitor::MASK[0x7C] == registers[1])
-            & (registers[2] & Monitor::MASK[0x7E] == registers[2])
-            & (registers[3] & Monitor::MASK[0x80] == registers[3])
-            & (registers[4] & Monitor::MASK[0x81] == registers[4])
-            & (registers[5] & Monitor::MASK[0x82] == registers[5])
-            & (registers[6] & Monitor::MASK[0x83] == registers[6])
-            & (registers[7] & Monitor::MASK[0x90] == registers[7])
-            & (registers[8] & Monitor::MASK[0x91] == registers[8])
-            & (registers[9] & Monitor::MASK[0xB5] == registers[9])
-            & (registers[10] & Monitor::MASK[0xB6] == registers[10])
-            & (registers[11] & Monitor::MASK[0xB7] == registers[11])
+        let masks = Monitor::STORED_MASK;
+        for k in 0..12 {
+            if !mask::within8(masks[k], registers[k]) {
+                return false;
+            }
+        }
+        true
     }
 
     pub fn access(self, offset: u32, access: Access) -> AccessResult
@@ -237,6 +219,24 @@ impl Monitor {
             return AccessResult::status(Answer::BLOCKED, self);
         }
         AccessResult::status(Answer::DONE, self.stored(index, value))
+    }
+
+    fn kind_of(index: u8) -> u8
+        ensures { λ r. ⌜ r ≡ kindOf index ⌝ }
+    {
+        Monitor::KIND[index as usize]
+    }
+
+    fn reset_of(index: u8) -> u8
+        ensures { λ r. ⌜ r ≡ resetOf index ⌝ }
+    {
+        Monitor::RESET[index as usize]
+    }
+
+    fn mask_of(index: u8) -> u8
+        ensures { λ r. ⌜ r ≡ maskOf index ⌝ }
+    {
+        Monitor::MASK[index as usize]
     }
 
     // Where the register at an index is stored; 12 for one that is not.

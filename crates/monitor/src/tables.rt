@@ -1,8 +1,6 @@
 // The monitor's registers by index, as document 01's table lists them: "The table has 256 entries; those not listed are
 // status 4." A comment names each sixteenth index.
 use crate::Monitor;
-ghost use mathlib.Core.Path.{_≡_};
-ghost use Rattle.monitor.specs.Table.{kindOf, maskOf, resetOf};
 
 impl Monitor {
     pub const KIND: [u8; 256] = [
@@ -75,7 +73,7 @@ impl Monitor {
         0,
         0,
         // 40h
-        2,
+        Monitor::LOCK,
         0,
         0,
         0,
@@ -123,8 +121,8 @@ impl Monitor {
         0,
         0,
         0,
-        1,
-        1,
+        Monitor::READ_ONLY,
+        Monitor::READ_ONLY,
         // 70h
         0,
         0,
@@ -138,20 +136,20 @@ impl Monitor {
         0,
         0,
         0,
-        3,
+        Monitor::LOCKABLE,
         0,
-        3,
+        Monitor::LOCKABLE,
         0,
         // 80h
-        3,
-        3,
-        3,
-        5,
-        1,
-        1,
-        1,
-        1,
-        1,
+        Monitor::LOCKABLE,
+        Monitor::LOCKABLE,
+        Monitor::LOCKABLE,
+        Monitor::WRITE_1_CLEARS,
+        Monitor::READ_ONLY,
+        Monitor::READ_ONLY,
+        Monitor::READ_ONLY,
+        Monitor::READ_ONLY,
+        Monitor::READ_ONLY,
         0,
         0,
         0,
@@ -160,8 +158,8 @@ impl Monitor {
         0,
         0,
         // 90h
-        4,
-        4,
+        Monitor::UNLOCKED,
+        Monitor::UNLOCKED,
         0,
         0,
         0,
@@ -199,9 +197,9 @@ impl Monitor {
         0,
         0,
         0,
-        3,
-        3,
-        3,
+        Monitor::LOCKABLE,
+        Monitor::LOCKABLE,
+        Monitor::LOCKABLE,
         0,
         0,
         0,
@@ -830,21 +828,44 @@ impl Monitor {
         0x00,
     ];
 
-    pub fn kind_of(index: u8) -> u8
-        ensures { λ r. ⌜ r ≡ kindOf index ⌝ }
-    {
-        Monitor::KIND[index as usize]
-    }
+    // The entries of the registers that can change, in the order in which a monitor stores them, and of the read-only ones.
+    pub const STORED_RESET: [u8; 12] = [
+        Monitor::RESET[0x40],
+        Monitor::RESET[0x7C],
+        Monitor::RESET[0x7E],
+        Monitor::RESET[0x80],
+        Monitor::RESET[0x81],
+        Monitor::RESET[0x82],
+        Monitor::RESET[0x83],
+        Monitor::RESET[0x90],
+        Monitor::RESET[0x91],
+        Monitor::RESET[0xB5],
+        Monitor::RESET[0xB6],
+        Monitor::RESET[0xB7],
+    ];
 
-    pub fn reset_of(index: u8) -> u8
-        ensures { λ r. ⌜ r ≡ resetOf index ⌝ }
-    {
-        Monitor::RESET[index as usize]
-    }
+    pub const STORED_MASK: [u8; 12] = [
+        Monitor::MASK[0x40],
+        Monitor::MASK[0x7C],
+        Monitor::MASK[0x7E],
+        Monitor::MASK[0x80],
+        Monitor::MASK[0x81],
+        Monitor::MASK[0x82],
+        Monitor::MASK[0x83],
+        Monitor::MASK[0x90],
+        Monitor::MASK[0x91],
+        Monitor::MASK[0xB5],
+        Monitor::MASK[0xB6],
+        Monitor::MASK[0xB7],
+    ];
 
-    pub fn mask_of(index: u8) -> u8
-        ensures { λ r. ⌜ r ≡ maskOf index ⌝ }
-    {
-        Monitor::MASK[index as usize]
-    }
+    pub const READ_ONLY_RESET: [u8; 7] = [
+        Monitor::RESET[0x6E],
+        Monitor::RESET[0x6F],
+        Monitor::RESET[0x84],
+        Monitor::RESET[0x85],
+        Monitor::RESET[0x86],
+        Monitor::RESET[0x87],
+        Monitor::RESET[0x88],
+    ];
 }

@@ -78,8 +78,8 @@ fn event(device: Device, line: &[u8]) -> Device {
 }
 
 // The bytes of a saved state; false where the line has no such bytes.
-fn state_bytes(line: &[u8], bytes: &mut [u8; 106]) -> bool {
-    for k in 0..106 {
+fn state_bytes(line: &[u8], bytes: &mut [u8; state::SIZE]) -> bool {
+    for k in 0..state::SIZE {
         let b = digits::byte(line, 2 + 2 * k);
         if 256 <= b {
             return false;
@@ -91,7 +91,7 @@ fn state_bytes(line: &[u8], bytes: &mut [u8; 106]) -> bool {
 
 // L bytes
 fn load(device: Device, line: &[u8]) -> Device {
-    let mut bytes = [0u8; 106];
+    let mut bytes = [0u8; state::SIZE];
     if !digits::is_space(line, 1) {
         return unread(device);
     }

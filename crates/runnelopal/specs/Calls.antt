@@ -14,7 +14,8 @@ use Rattle.device.specs.declared.lone.LoneEvent.{LoneEvent}
 use Rattle.sequencer.specs.Run.{isRefusal, runAnswer}
 use Rattle.machine.specs.Sequencer.{freshSequencer}
 use Rattle.sequencer.specs.declared.Ran.{Ran}
-use Rattle.state.specs.State.{bit, loaded, saved}
+use Rattle.little_endian.specs.Bytes.{flagByte}
+use Rattle.state.specs.State.{loaded, saved}
 
 -- numbers one after the other from a place on; those that the slice has no room for are dropped
 abbrev pub numbered : ℕ → List ℕ → List ℕ → List ℕ
@@ -33,7 +34,7 @@ abbrev pub keptRun : ℕ → Device → List ℕ → List ℕ
 keptRun outcome d state = cond (isRefusal outcome) state (saved d state)
 
 abbrev pub outputNumbers : Outputs → List ℕ
-outputNumbers o = bit (o .sci) ∷ bit (o .smi) ∷ bit (o .monitor) ∷ []
+outputNumbers o = flagByte (o .sci) ∷ flagByte (o .smi) ∷ flagByte (o .monitor) ∷ []
 
 -- ---- a saved device: bytes that are no state are refused with 11, as a state out of range is
 unfoldable pub savedAccess : List ℕ → Access → LoneAccess

@@ -17,7 +17,8 @@ ghost use Rattle.compiler.specs.Compile.{compiled, imageAfter};
 ghost use Rattle.device.specs.Device.{freshDevice};
 ghost use Rattle.sequencer.specs.Run.{logAfter};
 ghost use Rattle.machine.specs.Sequencer.{freshSequencer};
-ghost use Rattle.state.specs.State.{bit, saved};
+ghost use Rattle.little_endian.specs.Bytes.{flagByte};
+ghost use Rattle.state.specs.State.{saved, stateSize};
 ghost use Rattle.runnelopal.specs.Calls.{
   numbered,
   outputNumbers,
@@ -53,7 +54,7 @@ pub extern "C" fn runnelopal_compile(script: &[u8], image: &mut [u8], answer: &m
 }
 
 fn put_flag(answer: &mut [u64], at: usize, on: bool)
-    ensures { λ _. ⌜ now (answer .exit) ≡ set (now (answer .entry)) at (bit on) ⌝ }
+    ensures { λ _. ⌜ now (answer .exit) ≡ set (now (answer .entry)) at (flagByte on) ⌝ }
 {
     if on {
         put(answer, at, 1);
@@ -92,7 +93,7 @@ fn keep_run(state: &mut [u8], outcome: u32, device: Device)
     }
 }
 
-// Runs an image on a fresh device from a fresh sequencer, and leaves the device's state in a lent slice of 106 bytes. Numbers:
+// Runs an image on a fresh device from a fresh sequencer, and leaves the device's state in a lent slice of its size. Numbers:
 // the place of a refusal, the steps, the events taken, the values logged, the place of the sequencer.
 #[no_mangle]
 pub extern "C" fn runnelopal_run(
@@ -116,10 +117,10 @@ pub extern "C" fn runnelopal_run(
     r.outcome
 }
 
-// The fresh device's state, into a slice of 106 bytes.
+// The fresh device's state, into a slice of its size.
 #[no_mangle]
 pub extern "C" fn runnelopal_fresh(state: &mut [u8]) -> u32
-    ensures { λ r. ⌜ (r ≡ cond (eqb (length (now (state .entry))) 106) 0 11) × (now (state .exit) ≡ saved freshDevice (now (state .entry))) ⌝ }
+    ensures { λ r. ⌜ (r ≡ cond (eqb (length (now (state .entry))) stateSize) 0 11) × (now (state .exit) ≡ saved freshDevice (now (state .entry))) ⌝ }
 {
     let fresh = Device::fresh();
     if state.len() != state::SIZE {

@@ -1,7 +1,7 @@
 // The sequencer: runs an image on a device.
 use access::Answer;
-use device::Device;
 use device::AccessResult;
+use device::Device;
 use machine::Sequencer;
 use machine::running;
 use machine::running::Position;
@@ -243,7 +243,8 @@ fn run_words(
             x.place = next.place;
             steps = counted(steps);
         } else if word.kind == word::DELAY {
-            let delayed = last.device.apply_event(device::event::tick_event(word.value));
+            let delayed = last.device
+                .apply_event(device::event::tick_event(word.value));
             last.device = delayed;
             x.place = x.place + 1;
             steps = counted(steps);

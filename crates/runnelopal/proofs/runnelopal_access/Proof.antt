@@ -11,8 +11,8 @@ use Rattle.runnelopal.proofs.runnelopal_access.Tie as tie
 load-requires : tie.Need-load-requires
 load-requires c κs = search needs
 
-access-requires : tie.Need-access-requires
-access-requires c κs = search needs
+lone-access-requires : tie.Need-lone-access-requires
+lone-access-requires c κs = search needs
 
 keep-requires : tie.Need-keep-requires
 keep-requires c κs = search needs
@@ -30,7 +30,7 @@ returns : tie.Need-returns
 returns c =
     let e =
     access-answered _ _ _ _ (c .before .before .before .before .before .before .before .before .before .before .before .before .load .ensures) (c .before .before .before .before .before .before .before .before .before .before .if1 .taken)
-    (c .before .before .before .before .before .before .before .before .before .access .ensures) in (
+    (c .before .before .before .before .before .before .before .before .before .lone-access .ensures) in (
       ap (λ (x : LoneAccess). x .refusal) e,
       (c .before .before .before .before .before .before .keep .ensures ∙ rw e, c .before .before .put-access .ensures ∙ rw e),
     )
@@ -60,7 +60,7 @@ runnelopal-access-spec =
     tie.close
     (tie.spec
     load-requires
-    access-requires
+    lone-access-requires
     keep-requires
     put-access-requires
     same-length

@@ -10,8 +10,8 @@ use Rattle.runnelopal.proofs.runnelopal_event.Tie as tie
 load-requires : tie.Need-load-requires
 load-requires c κs = search needs
 
-event-requires : tie.Need-event-requires
-event-requires c κs = search needs
+lone-event-requires : tie.Need-lone-event-requires
+lone-event-requires c κs = search needs
 
 keep-requires : tie.Need-keep-requires
 keep-requires c κs = search needs
@@ -29,7 +29,7 @@ returns : tie.Need-returns
 returns c =
     let e =
     event-answered _ _ _ _ (c .before .before .before .before .before .before .before .before .before .before .before .before .load .ensures) (c .before .before .before .before .before .before .before .before .before .before .if1 .taken)
-    (c .before .before .before .before .before .before .before .before .before .event .ensures) in (
+    (c .before .before .before .before .before .before .before .before .before .lone-event .ensures) in (
       ap (λ (x : LoneEvent). x .refusal) e,
       (c .before .before .before .before .before .before .keep .ensures ∙ rw e, c .before .before .put-event .ensures ∙ rw e),
     )
@@ -59,7 +59,7 @@ runnelopal-event-spec =
     tie.close
     (tie.spec
     load-requires
-    event-requires
+    lone-event-requires
     keep-requires
     put-event-requires
     same-length

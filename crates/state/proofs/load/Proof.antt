@@ -1,4 +1,4 @@
--- `state::load` meets its contract: 106 bytes are read as they stand. Assumes nothing.
+-- `state::load` meets its contract: a slice of the size is read as it stands. Assumes nothing.
 use Rattle.state.proofs.Slices.{loaded-not, loaded-whole}
 use borrow.Author.Needs.{needs}
 use Rattle.state.proofs.load.Statement.{statement}

@@ -1,4 +1,4 @@
--- `state::save` meets its contract: the state takes the place of 106 bytes. Assumes nothing.
+-- `state::save` meets its contract: the state takes the place of a slice of its size. Assumes nothing.
 use Rattle.state.proofs.Slices.{saved-not, saved-whole}
 use borrow.Author.Needs.{needs}
 use Rattle.state.proofs.save.Statement.{statement}

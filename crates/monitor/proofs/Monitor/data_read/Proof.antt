@@ -16,11 +16,27 @@ returns c = simp (← (c .before .before .kind-of .ensures), c .before .match .k
 
 returns-2 : tie.Need-returns-2
 unfolding dataRead
-returns-2 c = simp (← (c .before .before .before .kind-of .ensures), c .before .before .match .keys2, ← (c .before .reset-of .ensures)) (c .read .ensures)
+returns-2 c =
+    simp (
+      ← (c .before .before .before .kind-of .ensures),
+      c .before .before .match .keys2,
+      ← (c .before .reset-of .ensures),
+    )
+    (c .read .ensures)
 
 returns-3 : tie.Need-returns-3
 unfolding dataRead
-returns-3 c = simp (← (c .before .before .before .kind-of .ensures), ne-eqb _ _ (c .before .before .match .rest .0 .1), ne-eqb _ _ (c .before .before .match .rest .1), ← (c .before .register .ensures)) (c .read2 .ensures)
+returns-3 c =
+    simp (
+      ← (c .before .before .before .kind-of .ensures),
+      ne-eqb _ _ (c .before .before .match .rest .0 .1),
+      ne-eqb _ _ (c .before .before .match .rest .1),
+      ← (c .before .register .ensures),
+    )
+    (c .read2 .ensures)
 
 pub data-read-spec : {M : Type 1} → statement M
-data-read-spec = tie.close (tie.spec (λ c κs. search needs) (λ c κs. search needs) (λ c κs. search needs) (λ c κs. search needs) register-requires (λ c κs. search needs) returns returns-2 returns-3)
+data-read-spec =
+    tie.close
+    (tie.spec (λ c κs. search needs) (λ c κs. search needs) (λ c κs. search needs) (λ c κs. search needs)
+    register-requires (λ c κs. search needs) returns returns-2 returns-3)

@@ -10,7 +10,16 @@ returns c = rw (← (c .before .before .lock-set .ensures), c .before .if1 .take
 
 returns-2 : tie.Need-returns-2
 unfolding lockableWrite
-returns-2 c = rw (← (c .before .before .before .lock-set .ensures), c .before .before .if1 .left, ← (c .before .stored .ensures)) (c .status2 .ensures)
+returns-2 c =
+    rw (
+      ← (c .before .before .before .lock-set .ensures),
+      c .before .before .if1 .left,
+      ← (c .before .stored .ensures),
+    )
+    (c .status2 .ensures)
 
 pub lockable-write-spec : {M : Type 1} → statement M
-lockable-write-spec = tie.close (tie.spec (λ c κs. search needs) (λ c κs. search needs) returns (λ c κs. search needs) (λ c κs. search needs) returns-2)
+lockable-write-spec =
+    tie.close
+    (tie.spec (λ c κs. search needs) (λ c κs. search needs) returns (λ c κs. search needs) (λ c κs. search needs)
+    returns-2)

@@ -20,4 +20,9 @@ returns-13 c = simp (
 )
 
 pub slot-of-spec : {M : Type 1} → statement M
-slot-of-spec = tie.close (tie.spec (λ c. simp (c .match .keys1)) (λ c. simp (c .match .keys2)) (λ c. simp (c .match .keys3)) (λ c. simp (c .match .keys4)) (λ c. simp (c .match .keys5)) (λ c. simp (c .match .keys6)) (λ c. simp (c .match .keys7)) (λ c. simp (c .match .keys8)) (λ c. simp (c .match .keys9)) (λ c. simp (c .match .keys10)) (λ c. simp (c .match .keys11)) (λ c. simp (c .match .keys12)) returns-13)
+slot-of-spec =
+    tie.close
+    (tie.spec (λ c. simp (c .match .keys1)) (λ c. simp (c .match .keys2)) (λ c. simp (c .match .keys3))
+    (λ c. simp (c .match .keys4)) (λ c. simp (c .match .keys5)) (λ c. simp (c .match .keys6))
+    (λ c. simp (c .match .keys7)) (λ c. simp (c .match .keys8)) (λ c. simp (c .match .keys9))
+    (λ c. simp (c .match .keys10)) (λ c. simp (c .match .keys11)) (λ c. simp (c .match .keys12)) returns-13)

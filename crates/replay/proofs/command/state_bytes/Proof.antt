@@ -3,14 +3,15 @@ use Prim.Native.Nat.{_≤_, _-_}
 use mathlib.Core.Path.{_≡_}
 use lib.ListN.{length}
 use borrow.Author.Needs.{needs}
+use Rattle.state.specs.State.{stateSize}
 use Rattle.replay.proofs.command.state_bytes.Statement.{statement}
 use Rattle.replay.proofs.command.state_bytes.Tie as tie
 
 abbrev Inv-loop : tie.InvT-loop
-Inv-loop line bytes₀ k₀ bytes k = k ≤ 106
+Inv-loop line bytes₀ k₀ bytes k = k ≤ stateSize
 
 abbrev μ-loop : tie.MeasureT-loop
-μ-loop line bytes₀ k₀ bytes k = 106 - k
+μ-loop line bytes₀ k₀ bytes k = stateSize - k
 
 loop-holds : tie.Need-loop-holds Inv-loop μ-loop
 loop-holds c = search needs

@@ -1,0 +1,80 @@
+-- `monitor::Monitor::in_range` meets its contract: the first k registers are within their masks. Assumes nothing.
+use Prim.Native.Nat.{ℕ, _-_, _≤_}
+use mathlib.Core.Path.{_≡_, refl, sym, ap, _∙_}
+use mathlib.Core.Bool.{Bool, true}
+use mathlib.Core.List.{List, map}
+use native.Mathlib.Omega.{arith}
+use borrow.Author.Needs.{needs}
+use borrow.Author.Tests.{not-false, not-true}
+use lib.ListN.{getD}
+use Rattle.mask.proofs.Every.{all-false, all-more}
+use Rattle.mask.specs.Every.{allBelow}
+use Rattle.mask.specs.Mask.{within}
+use Rattle.monitor.specs.Table.{maskOf, storedIndices}
+use Rattle.monitor.proofs.Monitor.in_range.Statement.{statement}
+use Rattle.monitor.proofs.Monitor.in_range.Tie as tie
+
+abbrev isWithin : List ℕ → List ℕ → ℕ → Bool
+isWithin registers masks k = within (getD masks k 0) (getD registers k 0)
+
+abbrev Inv-loop : tie.InvT-loop
+Inv-loop registers masks k₀ k = (k ≤ 12) × (allBelow k (isWithin registers masks) ≡ true)
+
+abbrev μ-loop : tie.MeasureT-loop
+μ-loop registers masks k₀ k = 12 - k
+
+loop-holds : tie.Need-loop-holds Inv-loop μ-loop
+loop-holds c = (omega arith, refl)
+
+array-read-within8 : tie.Need-array-read-within8 Inv-loop μ-loop
+array-read-within8 c = omega arith
+
+array-read-within8-2 : tie.Need-array-read-within8-2 Inv-loop μ-loop
+array-read-within8-2 c = omega arith
+
+within8-requires : tie.Need-within8-requires Inv-loop μ-loop
+within8-requires c κs = search needs
+
+returns : tie.Need-returns Inv-loop μ-loop
+returns c =
+    let registers = c .before .before .before .before .before .args .self .registers in
+    sym
+    (all-false 12 (isWithin registers (map maskOf storedIndices)) (c .before .before .before .loop .k) (omega arith)
+    (sym (c .before .within8 .ensures) ∙ not-true _ (c .if1 .taken)))
+
+add-k : tie.Need-add-k Inv-loop μ-loop
+add-k c = omega arith
+
+loop-less : tie.Need-loop-less Inv-loop μ-loop
+loop-less c = omega arith
+
+loop-again : tie.Need-loop-again Inv-loop μ-loop
+loop-again c =
+    let registers = c .before .before .before .before .before .args .self .registers in (
+      omega arith,
+      all-more (c .before .before .before .loop .k) (isWithin registers (map maskOf storedIndices))
+          (c .before .before .before .loop .inv .1)
+          (sym (c .before .within8 .ensures) ∙ not-false _ (c .if1 .left)),
+    )
+
+returns-2 : tie.Need-returns-2 Inv-loop μ-loop
+returns-2 c =
+    let p = isWithin (c .before .before .before .args .self .registers) (map maskOf storedIndices) in
+    let e : 12 ≡ c .before .loop .k = omega arith in
+    sym (ap (λ (n : ℕ). allBelow n p) e ∙ c .before .loop .inv .1)
+
+pub in-range-spec : {M : Type 1} → statement M
+in-range-spec =
+    tie.close
+    (tie.spec
+    Inv-loop
+    μ-loop
+    loop-holds
+    array-read-within8
+    array-read-within8-2
+    within8-requires
+    returns
+    add-k
+    loop-less
+    loop-again
+    returns-2)
