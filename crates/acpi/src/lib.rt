@@ -31,26 +31,27 @@ pub struct Acpi {
     pub maps: [u16; 8],
     pub levels: [bool; 8],
     pub timer: u32,
-    // PM1a_STS, PM1a_EN, GPE0_STS, GPE0_EN, and the bits that PM1a_CNT stores.
+    // PM1a_STS, the CPU state and whether the chip sleeps: what settling changes.
     pub pm1sts: u16,
+    pub cpu: u8,
+    pub sleeping: bool,
+    // PM1a_EN, GPE0_STS, GPE0_EN, and the bits that PM1a_CNT stores.
     pub pm1en: u16,
     pub gpe0sts: u16,
     pub gpe0en: u16,
     pub pm1cnt: u16,
     // SETUP_IDX
     pub setupidx: u16,
-    // P_CNT, the CPU state, the IRQ, SCI_EN.
+    // P_CNT, the IRQ, SCI_EN.
     pub pcnt: u8,
-    pub cpu: u8,
     pub irq: u8,
     pub scien: bool,
-    pub sleeping: bool,
 }
 
 // An access's answer, and the block after it.
 pub struct AccessResult {
-    pub answer: Answer,
     pub block: Acpi,
+    pub answer: Answer,
 }
 
 impl AccessResult {

@@ -29,8 +29,8 @@ pub struct Config {
 }
 
 pub struct AccessResult {
-    pub answer: Answer,
     pub block: Config,
+    pub answer: Answer,
 }
 
 // The configuration pair takes width 1 only.

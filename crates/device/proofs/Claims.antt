@@ -50,7 +50,7 @@ either-at-least port a b l h = pick (eqb port a) (eqb port b) refl refl h
 
 module _ (g : Config) (port : ℕ) where
   pub config-owns : owner g port ≡ configuration → configPort ≤ port
-  config-owns e = either-at-least port 0x002E 0x002F (omega arith) (claimed g port 0 e)
+  config-owns e = leb-true 0x002E port (and-left (leb 0x002E port) (leb port 0x002F) (claimed g port 0 e))
 
   pub acpi-owns : owner g port ≡ acpi → acpiPort ≤ port
   acpi-owns e = leb-true 0xAC00 port (and-left (leb 0xAC00 port) (leb port 0xAC1F) (claimed g port 1 e))

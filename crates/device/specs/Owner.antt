@@ -38,13 +38,17 @@ abbrev pub keyPort : Config → ℕ
 keyPort g = keyBase g
 
 -- ---- the claims
+-- a block at fixed ports claims them from its first to its last
+abbrev pub inPorts : (first last port : ℕ) → Bool
+inPorts first last port = leb first port && leb port last
+
 -- "002Eh, 002Fh: configuration."
 abbrev pub configClaims : ℕ → Bool
-configClaims port = eqb port 0x002E || eqb port 0x002F
+configClaims port = inPorts 0x002E 0x002F port
 
 -- "AC00h to AC1Fh: ACPI."
 abbrev pub acpiClaims : ℕ → Bool
-acpiClaims port = leb 0xAC00 port && leb port 0xAC1F
+acpiClaims port = inPorts 0xAC00 0xAC1F port
 
 -- "Blocks 3 and 4 exist only while activated and with a masked base other than 0."
 abbrev pub isActive : Config → Bool

@@ -2,8 +2,7 @@
 use access::Access;
 use access::Answer;
 ghost use mathlib.Core.Path.{_≡_};
-ghost use Rattle.device.specs.Dispatch.{accessResult, answerGiven, deviceAccess};
-ghost use Rattle.device.specs.Device.{settleDevice};
+ghost use Rattle.device.specs.Dispatch.{answerGiven, deviceAccess, dispatch};
 use crate::AccessResult;
 use crate::Device;
 use crate::owner::monitor_port;
@@ -24,49 +23,78 @@ fn answer_given(access: Access, answer: Answer) -> Answer
 }
 
 impl Device {
-    // The answer as it is given, and the device settled.
-    fn answered(self, access: Access, answer: Answer) -> AccessResult
-        ensures { λ r. ⌜ r ≡ accessResult (answerGiven access answer) (settleDevice self) ⌝ }
+    // The owner's answer, and the device with the block that answered. The device is taken apart, so that only one block is replaced.
+    fn dispatch(self, access: Access) -> AccessResult
+        ensures { λ r. ⌜ r ≡ dispatch self access ⌝ }
     {
-        let answer = answer_given(access, answer);
-        let device = self.settle();
-        AccessResult { answer, device }
-    }
-
-    // An access: its answer, and the device after it and its settling.
-    pub fn access(mut self, access: Access) -> AccessResult
-        ensures { λ r. ⌜ r ≡ deviceAccess self access ⌝ }
-    {
+        let acpi = self.acpi;
+        let key = self.key;
+        let monitor = self.monitor;
         let config = self.config;
         let owner = owner(config, access.port);
         match owner {
             Device::CONFIGURATION => {
                 let r = config.access(access.port - Device::INDEX_PORT, access);
-                let block = r.block;
-                self.config = block;
-                self.answered(access, r.answer)
+                let config = r.block;
+                let answer = r.answer;
+                let device = Device {
+                    acpi,
+                    key,
+                    monitor,
+                    config,
+                };
+                AccessResult { device, answer }
             }
             Device::ACPI => {
-                let r = self.acpi.access(access.port - Device::ACPI_FIRST, access);
-                let block = r.block;
-                self.acpi = block;
-                self.answered(access, r.answer)
+                let r = acpi.access(access.port - Device::ACPI_FIRST, access);
+                let acpi = r.block;
+                let answer = r.answer;
+                let device = Device {
+                    acpi,
+                    key,
+                    monitor,
+                    config,
+                };
+                AccessResult { device, answer }
             }
             Device::MONITOR => {
-                let r = self.monitor
-                    .access(access.port - monitor_port(config), access);
-                let block = r.block;
-                self.monitor = block;
-                self.answered(access, r.answer)
+                let r = monitor.access(access.port - monitor_port(config), access);
+                let monitor = r.block;
+                let answer = r.answer;
+                let device = Device {
+                    acpi,
+                    key,
+                    monitor,
+                    config,
+                };
+                AccessResult { device, answer }
             }
             Device::KEY => {
-                let r = self.key
-                    .access(config.control, access.port - config.key_base(), access);
-                let block = r.block;
-                self.key = block;
-                self.answered(access, r.answer)
+                let r = key.access(config.control, access.port - config.key_base(), access);
+                let key = r.block;
+                let answer = r.answer;
+                let device = Device {
+                    acpi,
+                    key,
+                    monitor,
+                    config,
+                };
+                AccessResult { device, answer }
             }
-            _ => self.answered(access, Answer::status_only(Answer::UNCLAIMED)),
+            _ => AccessResult {
+                device: self,
+                answer: Answer::status_only(Answer::UNCLAIMED),
+            },
         }
+    }
+
+    // An access: its answer, and the device after it and its settling.
+    pub fn access(self, access: Access) -> AccessResult
+        ensures { λ r. ⌜ r ≡ deviceAccess self access ⌝ }
+    {
+        let owned = self.dispatch(access);
+        let answer = answer_given(access, owned.answer);
+        let device = owned.device.settle();
+        AccessResult { device, answer }
     }
 }

@@ -12,12 +12,12 @@ use monitor::Monitor;
 ghost use mathlib.Core.Path.{_≡_};
 ghost use Rattle.device.specs.Device.{freshDevice, deviceInRange, outputsOf, resetDevice, settleDevice};
 
-// The blocks, in the order of their claims.
+// The blocks, the largest first: a device is copied as a whole, and no block then lies across the pieces of that copy.
 pub struct Device {
-    pub config: Config,
     pub acpi: Acpi,
-    pub monitor: Monitor,
     pub key: Key,
+    pub monitor: Monitor,
+    pub config: Config,
 }
 
 // SCI, SMI and the monitor interrupt: levels, computed from the state.
@@ -29,8 +29,8 @@ pub struct Outputs {
 
 // An access's answer, and the device after it.
 pub struct AccessResult {
-    pub answer: Answer,
     pub device: Device,
+    pub answer: Answer,
 }
 
 impl Device {
@@ -42,10 +42,10 @@ impl Device {
         let monitor = Monitor::fresh();
         let key = Key::fresh();
         Device {
-            config,
             acpi,
-            monitor,
             key,
+            monitor,
+            config,
         }
     }
 
@@ -58,10 +58,10 @@ impl Device {
         let monitor = self.monitor.reset(level);
         let key = self.key.reset(level);
         Device {
-            config,
             acpi,
-            monitor,
             key,
+            monitor,
+            config,
         }
     }
 
@@ -90,10 +90,13 @@ impl Device {
         }
     }
 
-    // What follows every event and every access.
+    // What follows every event and every access. With nothing pending, the device stays as it is.
     pub fn settle(mut self) -> Self
         ensures { λ r. ⌜ r ≡ settleDevice self ⌝ }
     {
+        if !self.acpi.pending() {
+            return self;
+        }
         let acpi = self.acpi.settle();
         self.acpi = acpi;
         self

@@ -1,7 +1,7 @@
 // Which block owns a port. The configuration decides, since it holds the bases.
 use config::Config;
 ghost use mathlib.Core.Path.{_≡_};
-ghost use Rattle.device.specs.Owner.{owner, isActive, configClaims, acpiClaims, monitorClaims, keyClaims, monitorPort};
+ghost use Rattle.device.specs.Owner.{owner, inPorts, isActive, monitorClaims, keyClaims, monitorPort};
 use crate::Device;
 
 // Owners of a port and their ports.
@@ -31,20 +31,12 @@ impl Device {
     pub const KEY_BYTES: u32 = 32;
 }
 
-fn config_claims(port: u32) -> bool
-    ensures { λ r. ⌜ r ≡ configClaims port ⌝ }
+// A block at fixed ports claims them from its first to its last.
+fn in_ports(first: u32, last: u32, port: u32) -> bool
+    ensures { λ r. ⌜ r ≡ inPorts first last port ⌝ }
 {
-    if port == Device::INDEX_PORT {
-        return true;
-    }
-    port == Device::DATA_PORT
-}
-
-fn acpi_claims(port: u32) -> bool
-    ensures { λ r. ⌜ r ≡ acpiClaims port ⌝ }
-{
-    if Device::ACPI_FIRST <= port {
-        return port <= Device::ACPI_LAST;
+    if first <= port {
+        return port <= last;
     }
     false
 }
@@ -98,10 +90,10 @@ fn key_claims(config: Config, port: u32) -> bool
 pub fn owner(config: Config, port: u32) -> u32
     ensures { λ r. ⌜ r ≡ owner config port ⌝ }
 {
-    if config_claims(port) {
+    if in_ports(Device::INDEX_PORT, Device::DATA_PORT, port) {
         return Device::CONFIGURATION;
     }
-    if acpi_claims(port) {
+    if in_ports(Device::ACPI_FIRST, Device::ACPI_LAST, port) {
         return Device::ACPI;
     }
     if monitor_claims(config, port) {

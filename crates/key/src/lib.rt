@@ -14,8 +14,8 @@ pub struct Key {
 }
 
 pub struct AccessResult {
-    pub answer: Answer,
     pub block: Key,
+    pub answer: Answer,
 }
 
 // The key block takes width 1 only.

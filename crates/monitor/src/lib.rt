@@ -35,8 +35,8 @@ pub struct Monitor {
 }
 
 pub struct AccessResult {
-    pub answer: Answer,
     pub block: Monitor,
+    pub answer: Answer,
 }
 
 impl AccessResult {

@@ -9,8 +9,7 @@ use machine::word;
 ghost use mathlib.Core.Path.{_≡_};
 ghost use mathlib.Core.Bool.{true};
 ghost use Prim.Native.Nat.{_+_, _<_, _≤_};
-ghost use lib.ListN.{drop, length};
-ghost use Rattle.semantics.specs.World.{nextApplied};
+ghost use lib.ListN.{length};
 ghost use Rattle.machine.specs.Sequencer.{sequencerInRange, countersOf, laid};
 ghost use Rattle.sequencer.specs.Run.{
   isRefusal,
@@ -194,16 +193,6 @@ fn counted(steps: u32) -> u32
     steps + 1
 }
 
-// The device after the next event, if there is one.
-fn next_event(device: Device, events: &[u32], taken: usize) -> Device
-    ensures { λ r. ⌜ r ≡ nextApplied device (drop taken (now (events .entry))) ⌝ }
-{
-    if taken < events.len() {
-        return device.apply_event(events[taken]);
-    }
-    device
-}
-
 // Runs the words of an image until the run ends. `last` is the device with the answer of its last access: one local for both is
 // copied once for each access.
 fn run_words(
@@ -219,8 +208,8 @@ fn run_words(
 {
     let words = (image.len() / 12) as u32;
     let mut last = AccessResult {
-        answer: Answer::status_only(Answer::DONE),
         device,
+        answer: Answer::status_only(Answer::DONE),
     };
     let mut x = start(sequencer);
     let mut counters = counters_of(sequencer);
@@ -249,8 +238,13 @@ fn run_words(
             x.place = x.place + 1;
             steps = counted(steps);
         } else {
-            let arrived = next_event(last.device, events, x.taken);
-            last = arrived.access(running::access_of(word));
+            // The next event, if there is one, comes first.
+            let taken = x.taken;
+            if taken < events.len() {
+                let arrived = last.device.apply_event(events[taken]);
+                last.device = arrived;
+            }
+            last = last.device.access(running::access_of(word));
             x = x.answered(word, last.answer.value, events, log);
             steps = counted(steps);
         }

@@ -1,35 +1,14 @@
 -- A slice of the state's size takes a state whole and is read whole; one of another length does neither. Assumes nothing.
 use Prim.Native.Nat.{ℕ, _+_, _≤_}
-use mathlib.Core.Path.{_≡_, sym, ap, _∙_}
-use mathlib.Core.Bool.{Bool, _&&_, and-true}
+use mathlib.Core.Path.{_≡_, sym, _∙_}
 use mathlib.Core.List.{List, [], append-nil}
 use lib.ListN.{drop, drop-of-length-le, length}
 use lib.Seq.{paste, take-length}
 use borrow.Author.Tests.{eq-eqb, ne-eqb}
 use native.Mathlib.Omega.{arith}
-use Rattle.acpi.specs.Saved.{acpiFrom, acpiSaved}
-use Rattle.acpi.specs.declared.Acpi.{Acpi}
-use Rattle.config.specs.Saved.{configFrom, configSaved}
-use Rattle.config.specs.declared.Config.{Config}
 use Rattle.device.specs.declared.Device.{Device}
-use Rattle.key.specs.Saved.{keyFrom}
-use Rattle.key.specs.declared.Key.{Key}
-use Rattle.monitor.specs.Saved.{monitorFrom, monitorSaved}
-use Rattle.monitor.specs.declared.Monitor.{Monitor}
 use Rattle.state.proofs.RoundTrip.{state-length}
-use Rattle.state.specs.State.{
-  acpiStart,
-  deviceFrom,
-  keyStart,
-  loaded,
-  loadedFrom,
-  monitorStart,
-  part,
-  refused,
-  saved,
-  stateBytes,
-  stateSize,
-}
+use Rattle.state.specs.State.{loaded, loadedFrom, refused, saved, stateBytes, stateSize}
 use Rattle.state.specs.declared.Loaded.{Loaded}
 
 -- a part as long as the list that it is put into takes the place of all of it
@@ -57,20 +36,3 @@ loaded-whole bytes r n l = rw (eq-eqb (length bytes) stateSize n) l
 pub loaded-not : (bytes : List ℕ) → (length bytes ≡ stateSize → ⊥) → refused ≡ loaded bytes
 unfolding loaded
 loaded-not bytes n = rw (ne-eqb (length bytes) stateSize n)
-
--- the blocks, each read from its own bytes
-pub loads :
-    (bytes : List ℕ) (g : Config) (a : Acpi) (m : Monitor) (k : Key) (p q r : Bool) → g ≡ configFrom (part 0 9 bytes)
-    → a ≡ acpiFrom (part acpiStart 45 bytes) → m ≡ monitorFrom (part monitorStart 20 bytes) → k ≡ keyFrom (part keyStart 32 bytes)
-    → p ≡ configSaved (part 0 9 bytes) → q ≡ monitorSaved (part monitorStart 20 bytes) → r ≡ acpiSaved (part acpiStart 45 bytes)
-    → _≡_ {A = Loaded} (record { valid = p && (q && r); device = record { config = g; acpi = a; monitor = m; key = k } })
-    (loadedFrom bytes)
-unfolding loadedFrom
-loads bytes g a m k p q r eg ea em ek ep eq er =
-    rw (eg, ea, em, ek, ep, eq, er)
-    (ap {B = Loaded}
-    (λ (b : Bool). record {
-      valid = configSaved (part 0 9 bytes) && (monitorSaved (part monitorStart 20 bytes) && b);
-      device = deviceFrom bytes;
-    })
-    (sym (and-true (acpiSaved (part acpiStart 45 bytes)))))

@@ -1,10 +1,37 @@
 -- `device::Device::apply_event` meets its contract: in each arm the kind's block takes the event. Assumes nothing.
+use Prim.Native.Nat.{ℕ}
 use mathlib.Core.Path.{_≡_, ap, sym, _∙_}
 use borrow.Author.Needs.{needs}
-use Rattle.device.proofs.ByBlock.{by-acpi, by-monitor, by-nobody, by-reset}
-use Rattle.device.specs.Device.{settleDevice, withAcpi, withMonitor}
+use borrow.Author.Tests.{ne-eqb}
+use Rattle.acpi.specs.Acpi.{acpiEvent}
+use Rattle.monitor.specs.Monitor.{monitorEvent}
+use Rattle.device.specs.Device.{resetDevice, settleDevice, withAcpi, withMonitor}
+use Rattle.device.specs.Event.{applyEvent, eventBlock, eventEffect, everyBlock, kindOf, operandOf}
+use Rattle.device.specs.Owner.{acpi, monitor}
+use Rattle.device.specs.declared.Device.{Device}
 use Rattle.device.proofs.Device.apply_event.Statement.{statement}
 use Rattle.device.proofs.Device.apply_event.Tie as tie
+
+-- ---- an event, by the block that its kind goes to
+module _ (d : Device) (number : ℕ) where
+  by-acpi : eventBlock (kindOf number) ≡ acpi
+      → settleDevice (withAcpi d (acpiEvent (d .acpi) (kindOf number) (operandOf number))) ≡ applyEvent d number
+  unfolding applyEvent eventEffect
+  by-acpi e = rw e
+
+  by-monitor : eventBlock (kindOf number) ≡ monitor
+      → settleDevice (withMonitor d (monitorEvent (d .monitor) (kindOf number) (operandOf number))) ≡ applyEvent d number
+  unfolding applyEvent eventEffect
+  by-monitor e = rw e
+
+  by-reset : eventBlock (kindOf number) ≡ everyBlock → settleDevice (resetDevice d (operandOf number)) ≡ applyEvent d number
+  unfolding applyEvent eventEffect
+  by-reset e = rw e
+
+  by-nobody : (eventBlock (kindOf number) ≡ acpi → ⊥) → (eventBlock (kindOf number) ≡ monitor → ⊥)
+      → (eventBlock (kindOf number) ≡ everyBlock → ⊥) → settleDevice d ≡ applyEvent d number
+  unfolding applyEvent eventEffect
+  by-nobody a m r = rw (ne-eqb _ acpi a, ne-eqb _ monitor m, ne-eqb _ everyBlock r)
 
 event-block-requires : tie.Need-event-block-requires
 event-block-requires c κs = search needs

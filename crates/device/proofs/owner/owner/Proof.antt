@@ -4,25 +4,25 @@ use borrow.Author.Needs.{needs}
 use Rattle.device.proofs.owner.owner.Statement.{statement}
 use Rattle.device.proofs.owner.owner.Tie as tie
 
-config-claims-requires : tie.Need-config-claims-requires
-config-claims-requires c κs = search needs
+in-ports-requires : tie.Need-in-ports-requires
+in-ports-requires c κs = search needs
 
 returns : tie.Need-returns
 unfolding owner
 returns c = simp (
-  ← (c .before .config-claims .ensures),
+  ← (c .before .in-ports .ensures),
   c .if1 .taken,
 )
 
-acpi-claims-requires : tie.Need-acpi-claims-requires
-acpi-claims-requires c κs = search needs
+in-ports-requires-2 : tie.Need-in-ports-requires-2
+in-ports-requires-2 c κs = search needs
 
 returns-2 : tie.Need-returns-2
 unfolding owner
 returns-2 c = simp (
-  ← (c .before .before .before .config-claims .ensures),
+  ← (c .before .before .before .in-ports .ensures),
   c .before .before .if1 .left,
-  ← (c .before .acpi-claims .ensures),
+  ← (c .before .in-ports2 .ensures),
   c .if2 .taken,
 )
 
@@ -32,9 +32,9 @@ monitor-claims-requires c κs = search needs
 returns-3 : tie.Need-returns-3
 unfolding owner
 returns-3 c = simp (
-  ← (c .before .before .before .before .before .config-claims .ensures),
+  ← (c .before .before .before .before .before .in-ports .ensures),
   c .before .before .before .before .if1 .left,
-  ← (c .before .before .before .acpi-claims .ensures),
+  ← (c .before .before .before .in-ports2 .ensures),
   c .before .before .if2 .left,
   ← (c .before .monitor-claims .ensures),
   c .if3 .taken,
@@ -46,9 +46,9 @@ key-claims-requires c κs = search needs
 returns-4 : tie.Need-returns-4
 unfolding owner
 returns-4 c = simp (
-  ← (c .before .before .before .before .before .before .before .config-claims .ensures),
+  ← (c .before .before .before .before .before .before .before .in-ports .ensures),
   c .before .before .before .before .before .before .if1 .left,
-  ← (c .before .before .before .before .before .acpi-claims .ensures),
+  ← (c .before .before .before .before .before .in-ports2 .ensures),
   c .before .before .before .before .if2 .left,
   ← (c .before .before .before .monitor-claims .ensures),
   c .before .before .if3 .left,
@@ -59,9 +59,9 @@ returns-4 c = simp (
 returns-5 : tie.Need-returns-5
 unfolding owner
 returns-5 c = simp (
-  ← (c .before .before .before .before .before .before .before .config-claims .ensures),
+  ← (c .before .before .before .before .before .before .before .in-ports .ensures),
   c .before .before .before .before .before .before .if1 .left,
-  ← (c .before .before .before .before .before .acpi-claims .ensures),
+  ← (c .before .before .before .before .before .in-ports2 .ensures),
   c .before .before .before .before .if2 .left,
   ← (c .before .before .before .monitor-claims .ensures),
   c .before .before .if3 .left,
@@ -73,9 +73,9 @@ pub owner-spec : {M : Type 1} → statement M
 owner-spec =
     tie.close
     (tie.spec
-    config-claims-requires
+    in-ports-requires
     returns
-    acpi-claims-requires
+    in-ports-requires-2
     returns-2
     monitor-claims-requires
     returns-3
