@@ -2,13 +2,16 @@
 -- run's end. Each word that neither faults nor halts keeps it, by what its kind does. Assumes nothing.
 use Prim.Native.Nat.{ℕ, _+_, _-_, _≤_, _<_}
 use mathlib.Core.List.{List}
+use mathlib.Core.Logic.{⊎-elim}
 use mathlib.Core.Path.{_≡_, ap, refl, sym, _∙_}
 use native.Mathlib.Omega.{arith}
-use borrow.Author.Needs.{needs}
-use lib.ListN.{length}
+use borrow.Author.Needs.{needs, scaled-fits}
+use lib.ListN.{drop, length}
 use Rattle.device.specs.Event.{applyEvent}
 use Rattle.device.specs.Dispatch.{deviceAccess}
+use Rattle.device.specs.declared.AccessResult.{AccessResult}
 use Rattle.machine.proofs.EachKind.{delayed-by}
+use Rattle.machine.proofs.Events.{next-none, next-there}
 use Rattle.machine.proofs.Faults.{can-access, can-delay, can-turn}
 use Rattle.machine.specs.Holds.{Does, Running, running}
 use Rattle.machine.specs.Sequencer.{countersOf, laid}
@@ -16,6 +19,7 @@ use Rattle.machine.specs.Step.{wordFault}
 use Rattle.machine.specs.Word.{imageWords}
 use Rattle.machine.specs.declared.Sequencer.{Sequencer}
 use Rattle.record.specs.declared.Record.{Record}
+use Rattle.semantics.specs.World.{nextApplied}
 use Rattle.sequencer.specs.Ends.{Starts}
 use Rattle.sequencer.specs.Run.{imageRun}
 use Rattle.sequencer.proofs.Going.{
@@ -240,9 +244,27 @@ loop-again-2 c = λ s h q.
     rw (c .counted2 .ensures)
     (next-word w (delayed-by (word (fetch-of w)) (state (executed-at w)) _ (t .if5 .taken) ticked _ _) refl s h q)
 
--- ---- it accesses the device
-next-event-requires : tie.Need-next-event-requires Inv-loop μ-loop
-next-event-requires c κs = search needs
+-- ---- it accesses the device, after the next event
+mul-apply-event : tie.Need-mul-apply-event Inv-loop μ-loop
+mul-apply-event c =
+    scaled-fits _ _ 4 (c .if6 .taken) (start-of (executed-at (access-of (c .before))) .good .1 .1 .1 .0 .1)
+
+shared-slice-read-apply-event : tie.Need-shared-slice-read-apply-event Inv-loop μ-loop
+shared-slice-read-apply-event c = search needs
+
+apply-event-requires-2 : tie.Need-apply-event-requires-2 Inv-loop μ-loop
+apply-event-requires-2 c κs = search needs
+
+-- the device where the two ways meet: after the next event, if there is one
+arrived :
+    (j : tie.Joined6 Inv-loop μ-loop)
+    → let l = executed-at (access-of (j .before)) in
+    j .if6 .last .device ≡ nextApplied (l .loop .last .device) (drop (l .loop .x .taken) (start-of l .args .events .now))
+arrived j =
+    ⊎-elim
+    (λ w. ap (λ (r : AccessResult). r .device) (w .3) ∙ w .2 .ensures ∙ sym (next-there _ _ _ (w .0 .taken)))
+    (λ w. ap (λ (r : AccessResult). r .device) (w .1) ∙ sym (next-none _ _ _ (w .0 .left)))
+    (j .if6 .came)
 
 access-of-requires : tie.Need-access-of-requires Inv-loop μ-loop
 access-of-requires c κs = search needs
@@ -271,7 +293,7 @@ loop-again-3 c = λ s h q.
     let t = access .before .before .before in
     let done = access .access .ensures ∙ ap (deviceAccess _) (access .before .access-of .ensures) in
     rw (c .counted3 .ensures)
-    (next-word (access-of t) (answer .answered .ensures _ _ _ _ (access .before .before .next-event .ensures) done refl) (answer .answered .kept .1 .1 .1 .1 .0) s h q)
+    (next-word (access-of t) (answer .answered .ensures _ _ _ _ (arrived (access .before .before)) done refl) (answer .answered .kept .1 .1 .1 .1 .0) s h q)
 
 -- ---- the budget is spent
 ended-requires-4 : tie.Need-ended-requires-4 Inv-loop μ-loop
@@ -319,7 +341,9 @@ run-words-spec =
     counted-requires-2
     loop-less-2
     loop-again-2
-    next-event-requires
+    mul-apply-event
+    shared-slice-read-apply-event
+    apply-event-requires-2
     access-of-requires
     access-requires
     answered-requires
