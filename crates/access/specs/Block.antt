@@ -1,5 +1,7 @@
 -- What a register block answers to an access, with the block after it: one shape for every block.
 use Prim.Native.Nat.{ℕ}
+use mathlib.Core.Bool.{Bool}
+use lib.Dec.{eqb}
 use Rattle.access.specs.Status.{statusOnly}
 use Rattle.access.specs.declared.Answer.{Answer}
 
@@ -10,6 +12,10 @@ pub record Result (B : Type 0) : Type 0 where
 abbrev pub result : {B : Type 0} → Answer → B → Result B
 result r b = record { answer = r; block = b }
 
--- an answer that is a status alone: a write, or a read that is not done
+-- "Blocks 1, 3 and 4 take width 1 only, else status 1."
+abbrev pub takesByte : ℕ → Bool
+takesByte width = eqb width 1
+
+-- an answer that is a status alone: a write, or a read that is not done. "A write's value answer is 0."
 abbrev pub status : {B : Type 0} → ℕ → B → Result B
 status s b = result (statusOnly s) b

@@ -1,5 +1,6 @@
 // An access and its answer: the status table of document 01.
 ghost use mathlib.Core.Path.{_≡_};
+ghost use Rattle.access.specs.Block.{takesByte};
 ghost use Rattle.access.specs.Status.{done, statusOnly, readGives};
 
 // A read or a write; `value` is what a write writes, and a read does not look at it.
@@ -43,6 +44,13 @@ impl Answer {
     {
         Answer { status, value: 0 }
     }
+}
+
+// Does a block of byte-wide registers take this width?
+pub fn takes_byte(width: u32) -> bool
+    ensures { λ r. ⌜ r ≡ takesByte width ⌝ }
+{
+    width == 1
 }
 
 // What a read of this width gives under a status, where the register holds `value`.

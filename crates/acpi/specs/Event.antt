@@ -25,7 +25,7 @@ raiseMapped a m =
     (cond (eqb (m % 256) 0x09) (raise a 0x0200)
     (cond (isGpeTarget (m % 256)) (withGpe0sts a (bitOr (a .gpe0sts) (2 ^ (m % 256 - 0x10)))) a))
 
--- "2 pin: [..] new level, which is stored; a change in the mapped direction sets the mapped bit, an equal level sets none"
+-- "2 pin (0 to 15: bits 2 to 0 pin, bit 3 new level, which is stored; a change in the mapped direction sets the mapped bit, an equal level sets none"
 unfoldable pub pinLevel : Acpi → ℕ → Bool → Acpi
 pinLevel a pin level =
     cond (inDirection (getD (a .maps) pin 0) (getD (a .levels) pin false) level)

@@ -1,4 +1,4 @@
--- Document 01, "ACPI block": the registers by their offset from AC00h, in the paper's order.
+-- Document 01, "ACPI block": the registers by their offset from AC00h.
 use Prim.Native.Nat.{ℕ}
 use mathlib.Core.Bool.{Bool, true, false, cond, _||_}
 use lib.Bits.{bitAnd, bitOr}

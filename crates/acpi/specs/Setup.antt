@@ -20,7 +20,7 @@ isSetupIndex i = eqb i 0x00 || isMapIndex i || eqb i 0x40 || eqb i 0x41
 unfoldable pub setupIndexWrite : Acpi → ℕ → Result Acpi
 setupIndexWrite a v = cond (isSetupIndex v) (status 0 (withSetupidx a v)) (status 5 a)
 
--- "20 (4) SETUP_DATA: 10h to 17h the map of pins 0 to 7; 40h [..] reads 0; 41h the IRQ; 00h reads 0"; status 3 is
+-- "20 (4) SETUP_DATA: 10h to 17h the map of pins 0 to 7; 40h [..] reads 0; 41h the IRQ, 0 to 15; 00h reads 0"; status 3 is
 -- "setup data under an undefined index"
 unfoldable pub setupRead : Acpi → Answer
 setupRead a =
@@ -35,7 +35,7 @@ mapWrite a pin v = cond (legalMap v) (status 0 (withMaps a (set (a .maps) pin v)
 unfoldable pub irqWrite : Acpi → ℕ → Result Acpi
 irqWrite a v = cond (leb v 15) (status 0 (withIrq a v)) (status 5 a)
 
--- "40h a write sets GBL_STS (bit 5); [..] 00h [..] writes status 5"
+-- "40h a write sets GBL_STS (bit 5), reads 0; [..] 00h reads 0, writes status 5"
 unfoldable pub setupWrite : Acpi → ℕ → Result Acpi
 setupWrite a v =
     cond (eqb (a .setupidx) 0x00) (status 5 a)

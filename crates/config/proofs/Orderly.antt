@@ -3,7 +3,7 @@ use Prim.Native.Nat.{ℕ, _%_}
 use mathlib.Core.Bool.{Bool, cond}
 use lib.Dec.{eqb}
 use Rattle.access.proofs.Block.{Orderly, kept, read-kept, write-done}
-use Rattle.access.specs.Block.{Result}
+use Rattle.access.specs.Block.{Result, takesByte}
 use Rattle.access.specs.declared.Access.{Access}
 use Rattle.mask.proofs.Branch.{branch, branch-on}
 use Rattle.mask.specs.Mask.{hasBit}
@@ -13,7 +13,6 @@ use Rattle.config.specs.Config.{
   dataWrite,
   indexWrite,
   registerWrite,
-  takes,
 }
 use Rattle.config.specs.declared.Config.{Config}
 
@@ -51,7 +50,7 @@ pub config-orderly : (g : Config) (offset : ℕ) (x : Access) → Orderly g (x .
 unfolding configAccess
 config-orderly g offset x =
     let w = x .write in
-    on g w (takes (x .width))
+    on g w (takesByte (x .width))
     (on g w (eqb offset 0)
     (branch-on (Orderly g w) w (λ _. index-write g w (x .value % 256)) (λ e. rw e read-kept))
     (branch-on (Orderly g w) w (λ _. data-write g w (x .value % 256)) (λ e. rw e read-kept)))

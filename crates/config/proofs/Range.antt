@@ -5,7 +5,7 @@ use mathlib.Core.Path.{_≡_, refl}
 use mathlib.Core.Bool.{true}
 use lib.Bits.{bitAnd}
 use lib.Dec.{eqb}
-use Rattle.access.specs.Block.{Result}
+use Rattle.access.specs.Block.{Result, takesByte}
 use Rattle.access.specs.declared.Access.{Access}
 use Rattle.mask.proofs.Branch.{branch}
 use Rattle.mask.proofs.Every.{and-both, and-left, and-right}
@@ -20,7 +20,6 @@ use Rattle.config.specs.Config.{
   freshConfig,
   indexWrite,
   registerWrite,
-  takes,
 }
 use Rattle.config.specs.declared.Config.{Config}
 
@@ -69,7 +68,7 @@ pub access-in-range :
     (g : Config) (offset : ℕ) (x : Access) → configInRange g ≡ true → configInRange (configAccess g offset x .block) ≡ true
 unfolding configAccess
 access-in-range g offset x h =
-    branch Kept (takes (x .width))
+    branch Kept (takesByte (x .width))
     (branch Kept (eqb offset 0)
     (branch Kept (x .write) (index-write g h (x .value % 256)) h)
     (branch Kept (x .write) (data-write g h (x .value % 256)) h))

@@ -3,7 +3,7 @@ use Prim.Native.Nat.{ℕ, _%_}
 use mathlib.Core.Bool.{Bool, true, false, cond, _&&_}
 use lib.Bits.{bitAnd}
 use lib.Dec.{eqb}
-use Rattle.access.specs.Block.{Result, result, status}
+use Rattle.access.specs.Block.{Result, result, status, takesByte}
 use Rattle.access.specs.Status.{done, statusOnly}
 use Rattle.access.specs.declared.Access.{Access}
 use Rattle.access.specs.declared.Answer.{Answer}
@@ -91,14 +91,10 @@ dataWrite g v =
     (cond (eqb (g .number) 0x0A) (registerWrite g v) (status 4 g)))
     (status 1 g)
 
--- ---- the pair. "Blocks 1, 3 and 4 take width 1 only, else status 1."
-abbrev pub takes : ℕ → Bool
-takes width = eqb width 1
-
--- offset 0 is the index port, 1 the data port
+-- offset 0 is the index port, any other the data port
 unfoldable pub configAccess : Config → ℕ → Access → Result Config
 configAccess g offset x =
-    cond (takes (x .width))
+    cond (takesByte (x .width))
     (cond (eqb offset 0)
     (cond (x .write) (indexWrite g (x .value % 256)) (result (indexRead g) g))
     (cond (x .write) (dataWrite g (x .value % 256)) (result (dataRead g) g)))

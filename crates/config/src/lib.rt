@@ -13,7 +13,6 @@ ghost use Rattle.config.specs.Config.{
   configInRange,
   runtimeBase,
   keyBase,
-  takes,
   configAccess,
 };
 
@@ -31,13 +30,6 @@ pub struct Config {
 pub struct AccessResult {
     pub block: Config,
     pub answer: Answer,
-}
-
-// The configuration pair takes width 1 only.
-pub fn takes(width: u32) -> bool
-    ensures { λ r. ⌜ r ≡ takes width ⌝ }
-{
-    width == 1
 }
 
 impl Config {
@@ -125,7 +117,7 @@ impl Config {
     pub fn access(self, offset: u32, access: Access) -> AccessResult
         ensures { λ r. ⌜ result (r .answer) (r .block) ≡ configAccess self offset access ⌝ }
     {
-        if !takes(access.width) {
+        if !access::takes_byte(access.width) {
             return self.status(Answer::UNCLAIMED);
         }
         let value = (access.value % 256) as u8;

@@ -25,7 +25,7 @@ Bytes bs = (k : ℕ) → getD bs k 0 < 256
 abbrev pub wordsWritten : List ℕ → List ℕ → List ℕ
 wordsWritten script buffer = take (12 * compiled script buffer .words) (imageAfter script buffer)
 
--- the script's own run beside what the run of its image answers, leaves in the log, and deviceAccess
+-- the script's own run beside what the run of its image answers, leaves in the log, and the accesses that it made
 pub record SameRun (own : Run) (answer : Ran) (image : Ended) (words : ℕ) (events lent log : List ℕ) : Type 0 where
   pub halted : answer .outcome ≡ 0
   pub onLastWord : answer .sequencer .place ≡ words - 1

@@ -40,7 +40,7 @@ answers d x =
 unfoldable pub dispatch : Device → Access → AccessResult
 dispatch d x = getD (answers d x) (owner (d .config) (x .port)) (unclaimed d)
 
--- the status table's column "Read gives"; a write's answer is the owner's
+-- the status table's column "Read gives"; a write's answer is the owner's, whose value is 0
 abbrev pub answerGiven : Access → Answer → Answer
 answerGiven x r = cond (x .write) r (record { status = r .status; value = readGives (r .status) (x .width) (r .value) })
 

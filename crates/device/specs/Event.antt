@@ -56,7 +56,7 @@ greatestOperand kind = columnAt (λ r. r .greatest) kind eventKinds
 unfoldable pub eventBlock : ℕ → ℕ
 eventBlock kind = columnAt (λ r. r .block) kind eventKinds
 
--- an event that refusal 12 lets through
+-- an event that refusal 12 lets through: its kind is in the table, and its operand is not too large
 unfoldable pub isEvent : ℕ → Bool
 isEvent number = not (eqb (eventBlock (kindOf number)) nobody) && leb (operandOf number) (greatestOperand (kindOf number))
 

@@ -1,11 +1,12 @@
 -- An access that is not done leaves the key bytes as they are, and the value answer of a write is 0. Assumes nothing.
 use Prim.Native.Nat.{ℕ, _%_}
 use mathlib.Core.Bool.{Bool}
+use Rattle.access.specs.Block.{takesByte}
 use Rattle.access.proofs.Block.{Orderly, kept, read-kept, write-done}
 use Rattle.access.specs.declared.Access.{Access}
 use Rattle.mask.proofs.Branch.{branch, branch-on}
 use Rattle.mask.specs.Mask.{hasBit}
-use Rattle.key.specs.Key.{keyAccess, keyWrite, takes}
+use Rattle.key.specs.Key.{keyAccess, keyWrite}
 use Rattle.key.specs.declared.Key.{Key}
 
 write-orderly : (k : Key) (control offset v : ℕ) {w : Bool} → Orderly k w (keyWrite k control offset v)
@@ -16,6 +17,6 @@ pub key-orderly : (k : Key) (control offset : ℕ) (x : Access) → Orderly k (x
 unfolding keyAccess
 key-orderly k control offset x =
     let w = x .write in
-    branch (Orderly k w) (takes (x .width))
+    branch (Orderly k w) (takesByte (x .width))
     (branch-on (Orderly k w) w (λ _. write-orderly k control offset (x .value % 256)) (λ e. rw e read-kept))
     kept

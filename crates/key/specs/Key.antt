@@ -5,7 +5,7 @@ use lib.Dec.{eqb, ltb}
 use lib.ListN.{getD, set, replicate}
 use Rattle.access.specs.declared.Access.{Access}
 use Rattle.access.specs.declared.Answer.{Answer}
-use Rattle.access.specs.Block.{Result, result, status}
+use Rattle.access.specs.Block.{Result, result, status, takesByte}
 use Rattle.access.specs.Status.{done, statusOnly}
 use Rattle.mask.specs.Mask.{hasBit}
 use Rattle.key.specs.declared.Key.{Key}
@@ -16,10 +16,6 @@ freshKey = record { bytes = replicate 32 0 }
 -- "Reset 3 also key bytes [..] 0"
 abbrev pub keyReset : Key → ℕ → Key
 keyReset k level = cond (ltb level 3) k freshKey
-
--- "Blocks 1, 3 and 4 take width 1 only, else status 1."
-abbrev pub takes : ℕ → Bool
-takes width = eqb width 1
 
 -- "Key control: bit 2 write-lock, bit 1 read-lock, bit 0 lock. [..] A key read under read-lock and a key write under
 -- write-lock have status 2."
@@ -33,6 +29,6 @@ keyWrite k control offset v =
 -- an access to the key byte at an offset, with key control as it is in the configuration
 unfoldable pub keyAccess : Key → ℕ → ℕ → Access → Result Key
 keyAccess k control offset x =
-    cond (takes (x .width))
+    cond (takesByte (x .width))
     (cond (x .write) (keyWrite k control offset (x .value % 256)) (result (keyRead k control offset) k))
     (status 1 k)

@@ -6,7 +6,7 @@ ghost use mathlib.Core.Path.{_≡_};
 ghost use Prim.Native.Nat.{_%_, _<_};
 ghost use lib.ListN.{length};
 ghost use Rattle.access.specs.Block.{result, status};
-ghost use Rattle.key.specs.Key.{freshKey, keyReset, takes, keyRead, keyWrite, keyAccess};
+ghost use Rattle.key.specs.Key.{freshKey, keyReset, keyRead, keyWrite, keyAccess};
 ghost use Rattle.key.specs.Saved.{keyBytes, keyFrom};
 
 pub struct Key {
@@ -16,13 +16,6 @@ pub struct Key {
 pub struct AccessResult {
     pub block: Key,
     pub answer: Answer,
-}
-
-// The key block takes width 1 only.
-pub fn takes(width: u32) -> bool
-    ensures { λ r. ⌜ r ≡ takes width ⌝ }
-{
-    width == 1
 }
 
 impl Key {
@@ -56,7 +49,7 @@ impl Key {
         requires { ⌜ offset < 32 ⌝ }
         ensures { λ r. ⌜ result (r .answer) (r .block) ≡ keyAccess self control offset access ⌝ }
     {
-        if !takes(access.width) {
+        if !access::takes_byte(access.width) {
             return self.status(Answer::UNCLAIMED);
         }
         let at = offset as usize;

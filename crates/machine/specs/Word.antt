@@ -1,18 +1,18 @@
 -- Document 01, "Scripts and images": the words of an image, and which of them are bad.
 use Prim.Native.Nat.{ℕ, _*_, _/_}
-use mathlib.Core.Bool.{Bool, cond, not, _&&_, _||_}
+use mathlib.Core.Bool.{Bool, not, _&&_, _||_}
 use mathlib.Core.List.{List}
 use lib.Dec.{eqb, leb}
 use lib.ListN.{length}
-use Rattle.record.specs.Record.{recordAt}
+use Rattle.record.specs.Record.{recordAt, recordSize}
 use Rattle.record.specs.declared.Record.{Record}
-use Rattle.script.specs.Fields.{countFields, noFields, readFields, valueFields}
+use Rattle.script.specs.Fields.{kindFields}
 
 abbrev pub imageWords : List ℕ → ℕ
-imageWords image = length image / 12
+imageWords image = length image / recordSize
 
 abbrev pub wordAt : List ℕ → ℕ → Record
-wordAt image place = recordAt image (12 * place)
+wordAt image place = recordAt image (recordSize * place)
 
 -- "word mark C3 3C"
 abbrev pub wrongWordMark : Record → Bool
@@ -28,10 +28,7 @@ usesTarget r = leb 4 (r .kind) && leb (r .kind) 7
 
 -- "Word 4 has script kind 4's fields and value rule, word 6 those of script kind 5"; "Unused fields are zero."
 abbrev pub goodWordFields : Record → Bool
-goodWordFields r =
-    (usesTarget r || eqb (r .target) 0)
-    && cond (eqb (r .kind) 1 || eqb (r .kind) 6) (valueFields r)
-    (cond (eqb (r .kind) 2) (readFields r) (cond (eqb (r .kind) 3 || eqb (r .kind) 4) (countFields r) (noFields r)))
+goodWordFields r = (usesTarget r || eqb (r .target) 0) && kindFields 6 r
 
 -- "A bad word has a wrong mark, a kind not 1 to 8, or a width, value or unused field wrong by the rules above."
 unfoldable pub badWord : Record → Bool

@@ -46,26 +46,10 @@ fn good_target(r: Record) -> bool
 fn good_fields(r: Record) -> bool
     ensures { λ b. ⌜ b ≡ goodWordFields r ⌝ }
 {
-    let kind = r.kind;
     if !good_target(r) {
         return false;
     }
-    if kind == WRITE {
-        return script::value_fields(r);
-    }
-    if kind == TEST {
-        return script::value_fields(r);
-    }
-    if kind == READ {
-        return script::read_fields(r);
-    }
-    if kind == DELAY {
-        return script::count_fields(r);
-    }
-    if kind == ENTER {
-        return script::count_fields(r);
-    }
-    script::no_fields(r)
+    script::kind_fields(r, TEST)
 }
 
 fn bad(r: Record) -> bool

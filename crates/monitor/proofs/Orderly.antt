@@ -4,7 +4,7 @@ use Prim.Native.Nat.{ℕ, _%_}
 use mathlib.Core.Bool.{Bool, true, false, cond}
 use lib.Dec.{eqb}
 use Rattle.access.proofs.Block.{Orderly, kept, read-kept, write-done}
-use Rattle.access.specs.Block.{Result}
+use Rattle.access.specs.Block.{Result, takesByte}
 use Rattle.access.specs.declared.Access.{Access}
 use Rattle.mask.proofs.Branch.{branch}
 use Rattle.monitor.specs.Monitor.{
@@ -12,7 +12,6 @@ use Rattle.monitor.specs.Monitor.{
   lockSet,
   lockableWrite,
   monitorAccess,
-  takes,
   writeAs,
 }
 use Rattle.monitor.specs.Table.{absent, kindOf, lock, lockable, readOnly, unlocked, write1Clears}
@@ -44,7 +43,7 @@ module _ (m : Monitor) where
   pub monitor-orderly : (offset : ℕ) (x : Access) → Orderly m (x .write) (monitorAccess m offset x)
   unfolding monitorAccess
   monitor-orderly offset x =
-      branch (Orderly m (x .write)) (takes (x .width))
+      branch (Orderly m (x .write)) (takesByte (x .width))
       (branch (Orderly m (x .write)) (eqb offset 0) (either (x .write) write-done read-kept)
       (either (x .write) (write-as (kindOf (m .index)) (m .index) (x .value % 256)) data-read))
       kept

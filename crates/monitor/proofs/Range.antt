@@ -9,7 +9,7 @@ use borrow.Author.Tests.{eqb-true, ltb-true}
 use lib.Bits.{and-mask, bitAnd, bitOr}
 use lib.Dec.{eqb, ltb}
 use lib.ListN.{getD}
-use Rattle.access.specs.Block.{Result}
+use Rattle.access.specs.Block.{Result, takesByte}
 use Rattle.access.specs.declared.Access.{Access}
 use Rattle.mask.proofs.Branch.{branch, branch-on}
 use Rattle.mask.proofs.Every.{all-at, all-true}
@@ -29,7 +29,6 @@ use Rattle.monitor.specs.Monitor.{
   register,
   sensed,
   stored,
-  takes,
   writeAs,
 }
 use Rattle.monitor.specs.Table.{
@@ -109,7 +108,7 @@ module _ (m : Monitor) (h : monitorInRange m ≡ true) where
   pub access-in-range : (offset : ℕ) (x : Access) → monitorInRange (monitorAccess m offset x .block) ≡ true
   unfolding monitorAccess
   access-in-range offset x =
-      branch Kept (takes (x .width))
+      branch Kept (takesByte (x .width))
       (branch Kept (eqb offset 0) (branch Kept (x .write) h h)
       (branch Kept (x .write) (write-in-range (m .index) (x .value % 256) (kindOf (m .index)) refl) read-in-range))
       h

@@ -5,7 +5,7 @@ use mathlib.Core.List.{List, map}
 use lib.Bits.{bitAnd, bitOr}
 use lib.Dec.{eqb}
 use lib.ListN.{getD, set}
-use Rattle.access.specs.Block.{Result, result, status}
+use Rattle.access.specs.Block.{Result, result, status, takesByte}
 use Rattle.access.specs.Status.{done}
 use Rattle.access.specs.declared.Access.{Access}
 use Rattle.mask.specs.Mask.{within, cleared, hasBit}
@@ -62,7 +62,7 @@ indexAccess m x = cond (x .write) (status 0 (withIndex m (x .value % 256))) (res
 unfoldable pub dataRead : Monitor → Result Monitor
 dataRead m = cond (eqb (kindOf (m .index)) absent) (status 4 m) (result (done (registerOf m (m .index))) m)
 
--- "40h: Lock is bit 1"
+-- 40h: "Lock is bit 1"
 abbrev pub lockSet : Monitor → Bool
 lockSet m = hasBit 0x02 (register m 0x40)
 
@@ -85,14 +85,10 @@ dataWrite m v = writeAs (kindOf (m .index)) m (m .index) v
 abbrev pub dataAccess : Monitor → Access → Result Monitor
 dataAccess m x = cond (x .write) (dataWrite m (x .value % 256)) (dataRead m)
 
--- ---- an access. "Blocks 1, 3 and 4 take width 1 only, else status 1."
-abbrev pub takes : ℕ → Bool
-takes width = eqb width 1
-
 -- offset 0 is the index, any other the data register
 unfoldable pub monitorAccess : Monitor → ℕ → Access → Result Monitor
 monitorAccess m offset x =
-    cond (takes (x .width)) (cond (eqb offset 0) (indexAccess m x) (dataAccess m x)) (status 1 m)
+    cond (takesByte (x .width)) (cond (eqb offset 0) (indexAccess m x) (dataAccess m x)) (status 1 m)
 
 -- ---- "5 sensor (0 to 3, set in 83h)"
 abbrev pub sensed : Monitor → ℕ → Monitor

@@ -22,7 +22,6 @@ ghost use Rattle.monitor.specs.Monitor.{
   lockSet,
   register,
   stored,
-  takes,
   monitorEvent,
   interrupt,
 };
@@ -142,7 +141,7 @@ impl Monitor {
     pub fn access(self, offset: u32, access: Access) -> AccessResult
         ensures { λ r. ⌜ result (r .answer) (r .block) ≡ monitorAccess self offset access ⌝ }
     {
-        if !takes(access.width) {
+        if !access::takes_byte(access.width) {
             return AccessResult::status(Answer::UNCLAIMED, self);
         }
         match offset {
@@ -303,8 +302,3 @@ impl Monitor {
 }
 
 // The monitor's ports take one byte.
-fn takes(width: u32) -> bool
-    ensures { λ r. ⌜ r ≡ takes width ⌝ }
-{
-    width == 1
-}

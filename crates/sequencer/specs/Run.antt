@@ -7,6 +7,7 @@ use lib.ListN.{length}
 use Rattle.device.specs.Device.{deviceInRange}
 use Rattle.device.specs.Event.{isEvent}
 use Rattle.device.specs.declared.Device.{Device}
+use Rattle.record.specs.Record.{recordSize}
 use Rattle.script.specs.Refusals.{Refusal, refusal}
 use Rattle.semantics.specs.World.{startWorld}
 use Rattle.machine.specs.Sequencer.{countersOf, sequencerAt, sequencerInRange}
@@ -45,7 +46,7 @@ isRefusal outcome = not (eqb outcome 0) && ltb outcome 19
 
 -- 10: "image empty, no multiple of 12, or over 1,024 words (0)"
 abbrev pub badImage : List ℕ → Bool
-badImage image = eqb (length image) 0 || (not (eqb (length image % 12) 0) || ltb 1024 (imageWords image))
+badImage image = eqb (length image) 0 || (not (eqb (length image % recordSize) 0) || ltb 1024 (imageWords image))
 
 -- 11: "device or sequencer state out of range (0)"
 abbrev pub badState : Device → Sequencer → Bool

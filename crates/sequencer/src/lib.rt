@@ -6,6 +6,7 @@ use machine::Sequencer;
 use machine::running;
 use machine::running::Position;
 use machine::word;
+use record::Record;
 ghost use mathlib.Core.Path.{_≡_};
 ghost use mathlib.Core.Bool.{true};
 ghost use Prim.Native.Nat.{_+_, _<_, _≤_};
@@ -69,10 +70,10 @@ fn bad_image(image: &[u8]) -> bool
     if image.len() == 0 {
         return true;
     }
-    if image.len() % 12 != 0 {
+    if image.len() % Record::SIZE != 0 {
         return true;
     }
-    1024 < image.len() / 12
+    1024 < image.len() / Record::SIZE
 }
 
 fn bad_state(device: Device, sequencer: Sequencer) -> bool
@@ -206,7 +207,7 @@ fn run_words(
     requires { ⌜ (imageWords (now image) ≤ 1024) × (sequencerInRange sequencer ≡ true) ⌝ }
     ensures { λ r. ⌜ EndsAs (now (events .entry)) (now (log .entry)) (now (log .exit)) r (imageRun (now (image .entry)) device sequencer (now (events .entry)) budget (length (now (log .entry)))) ⌝ }
 {
-    let words = (image.len() / 12) as u32;
+    let words = (image.len() / Record::SIZE) as u32;
     let mut last = AccessResult {
         device,
         answer: Answer::status_only(Answer::DONE),
@@ -218,7 +219,7 @@ fn run_words(
         if words <= x.place {
             return ended(PLACE_BEYOND, steps, last.device, x, counters);
         }
-        let word = record::read(image, 12 * index(x.place));
+        let word = record::read(image, Record::SIZE * index(x.place));
         let fault = word::fault(words, log.len(), x.used, x.logged, word);
         if fault != 0 {
             return ended(fault, steps, last.device, x, counters);

@@ -5,8 +5,8 @@ use Rattle.config.specs.Config.{configAccess}
 use Rattle.config.proofs.Config.access.Statement.{statement}
 use Rattle.config.proofs.Config.access.Tie as tie
 
-takes-requires : tie.Need-takes-requires
-takes-requires c κs = search needs
+takes-byte-requires : tie.Need-takes-byte-requires
+takes-byte-requires c κs = search needs
 
 status-requires : tie.Need-status-requires
 status-requires c κs = search needs
@@ -14,7 +14,7 @@ status-requires c κs = search needs
 returns : tie.Need-returns
 unfolding configAccess
 returns c =
-    let t = c .before .before .takes in
+    let t = c .before .before .takes-byte in
     rw (← (t .ensures), not-true (t .result) (c .before .if1 .taken)) (c .status .ensures)
 
 cast-value : tie.Need-cast-value
@@ -35,7 +35,7 @@ data-read-requires c κs = search needs
 returns-2 : tie.Need-returns-2
 unfolding configAccess
 returns-2 c =
-    let t = c .before .before .before .before .before .takes in
+    let t = c .before .before .before .before .before .takes-byte in
     rw (
       ← (t .ensures),
       not-false (t .result) (c .before .before .before .before .if1 .left),
@@ -47,7 +47,7 @@ returns-2 c =
 returns-3 : tie.Need-returns-3
 unfolding configAccess
 returns-3 c =
-    let t = c .before .before .before .before .before .takes in
+    let t = c .before .before .before .before .before .takes-byte in
     rw (
       ← (t .ensures),
       not-false (t .result) (c .before .before .before .before .if1 .left),
@@ -59,7 +59,7 @@ returns-3 c =
 returns-4 : tie.Need-returns-4
 unfolding configAccess
 returns-4 c =
-    let t = c .before .before .before .before .before .takes in
+    let t = c .before .before .before .before .before .takes-byte in
     rw (
       ← (t .ensures),
       not-false (t .result) (c .before .before .before .before .if1 .left),
@@ -71,7 +71,7 @@ returns-4 c =
 returns-5 : tie.Need-returns-5
 unfolding configAccess
 returns-5 c =
-    let t = c .before .before .before .before .before .takes in
+    let t = c .before .before .before .before .before .takes-byte in
     rw (
       ← (t .ensures),
       not-false (t .result) (c .before .before .before .before .if1 .left),
@@ -84,7 +84,7 @@ pub access-spec : {M : Type 1} → statement M
 access-spec =
     tie.close
     (tie.spec
-    takes-requires
+    takes-byte-requires
     status-requires
     returns
     cast-value

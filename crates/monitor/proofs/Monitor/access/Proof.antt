@@ -9,8 +9,8 @@ returns : tie.Need-returns
 unfolding monitorAccess
 returns c =
     rw (
-      ← (c .before .before .takes .ensures),
-      not-true (c .before .before .takes .result) (c .before .if1 .taken),
+      ← (c .before .before .takes-byte .ensures),
+      not-true (c .before .before .takes-byte .result) (c .before .if1 .taken),
     )
     (c .status .ensures)
 
@@ -18,8 +18,8 @@ returns-2 : tie.Need-returns-2
 unfolding monitorAccess
 returns-2 c =
     rw (
-      ← (c .before .before .before .takes .ensures),
-      not-false (c .before .before .before .takes .result) (c .before .before .if1 .left),
+      ← (c .before .before .before .takes-byte .ensures),
+      not-false (c .before .before .before .takes-byte .result) (c .before .before .if1 .left),
       c .before .match .keys1,
     )
     (c .index-access .ensures)
@@ -28,8 +28,8 @@ returns-3 : tie.Need-returns-3
 unfolding monitorAccess
 returns-3 c =
     rw (
-      ← (c .before .before .before .takes .ensures),
-      not-false (c .before .before .before .takes .result) (c .before .before .if1 .left),
+      ← (c .before .before .before .takes-byte .ensures),
+      not-false (c .before .before .before .takes-byte .result) (c .before .before .if1 .left),
       ne-eqb _ _ (c .before .match .rest .1),
     )
     (c .data-access .ensures)
