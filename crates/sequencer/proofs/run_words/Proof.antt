@@ -262,8 +262,8 @@ arrived :
     j .if6 .last .device ≡ nextApplied (l .loop .last .device) (drop (l .loop .x .taken) (start-of l .args .events .now))
 arrived j =
     ⊎-elim
-    (λ w. ap (λ (r : AccessResult). r .device) (w .3) ∙ w .2 .ensures ∙ sym (next-there _ _ _ (w .0 .taken)))
-    (λ w. ap (λ (r : AccessResult). r .device) (w .1) ∙ sym (next-none _ _ _ (w .0 .left)))
+    (λ (test, element, event, next). ap (λ (r : AccessResult). r .device) next ∙ event .ensures ∙ sym (next-there _ _ _ (test .taken)))
+    (λ (test, same). ap (λ (r : AccessResult). r .device) same ∙ sym (next-none _ _ _ (test .left)))
     (j .if6 .came)
 
 access-of-requires : tie.Need-access-of-requires Inv-loop μ-loop
