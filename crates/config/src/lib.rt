@@ -1,7 +1,7 @@
 // The Super I/O configuration with the security key's control register: document 01, "Configuration and key".
-// The configuration pair is an index port (offset 0) and a data port (offset 1): ports.rt. Its saved form: saved_form.rt.
+// The configuration pair is an index port (offset 0) and a data port (offset 1): ports.rt. Its saved form: bytes.rt.
+mod bytes;
 mod ports;
-mod saved_form;
 
 use access::Access;
 use access::Answer;
