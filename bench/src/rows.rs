@@ -41,8 +41,8 @@ impl Row {
 
 const COMPILE: &str = "Compile, 1,023 records";
 const RUN: &str = "Runs";
-const LONE: &str = "Lone calls: ours load and save 106 bytes at each call, theirs keep a struct";
-const LONE_BYTES: &str = "Lone calls: both load and save 106 bytes at each call";
+const LONE: &str = "Lone calls: ours load and save the state's bytes at each call, theirs keep a struct";
+const LONE_BYTES: &str = "Lone calls: both load and save the state's bytes at each call";
 const COMPILE_GROWTH: &str = "How a compile grows";
 const RUN_GROWTH: &str = "How a run grows";
 

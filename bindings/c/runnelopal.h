@@ -28,14 +28,14 @@ extern "C" {
 uint32_t runnelopal_compile(const uint8_t *script, size_t script_bytes, uint8_t *image, size_t image_bytes,
                             uint64_t *answer, size_t answer_count);
 
-/* Runs an image on a fresh device, from a fresh sequencer, and leaves the device in `state`, if that has 106 bytes.
+/* Runs an image on a fresh device, from a fresh sequencer, and leaves the device in `state`, if that is RUNNELOPAL_STATE bytes long.
  * 0 halted; 10, 12 refused; 19 to 24 stopped. A refusal leaves the log and the state as they were.
  * answer: place of the refusal, steps, events taken, values logged, place of the sequencer */
 uint32_t runnelopal_run(const uint8_t *image, size_t image_bytes, const uint32_t *events, size_t event_count,
                         uint32_t budget, uint32_t *log, size_t log_count, uint8_t *state, size_t state_bytes,
                         uint64_t *answer, size_t answer_count);
 
-/* The fresh device. 11 if `state` has not 106 bytes. */
+/* The fresh device. 11 if `state` is not RUNNELOPAL_STATE bytes long. */
 uint32_t runnelopal_fresh(uint8_t *state, size_t state_bytes);
 
 /* One access to a saved device. A refusal, 11 or 4, leaves the state as it was.

@@ -1270,7 +1270,7 @@ impl Generator {
                     0 => line.truncate(line.len() - 2),
                     1 => line.truncate(line.len() - 1),
                     2 => line.extend_from_slice(b"00"),
-                    _ => line.truncate(2 + 2 * self.random.below(106) as usize),
+                    _ => line.truncate(2 + 2 * self.random.below(state::STATE_BYTES as u32) as usize),
                 }
             }
             18 => {
