@@ -12,7 +12,7 @@ use monitor::Monitor;
 ghost use mathlib.Core.Path.{_≡_};
 ghost use Rattle.device.specs.Device.{freshDevice, deviceInRange, outputsOf, resetDevice, settleDevice};
 
-// The blocks, the largest first: a device is copied as a whole, and no block then lies across the pieces of that copy.
+// The blocks, the largest first: a device is copied in pieces of sixteen bytes, and the two large blocks then start at such a piece.
 pub struct Device {
     pub acpi: Acpi,
     pub key: Key,
