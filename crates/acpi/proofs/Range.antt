@@ -28,7 +28,7 @@ use Rattle.acpi.specs.Acpi.{
   mapInRange,
   rangeTests,
 }
-use Rattle.acpi.specs.Event.{passed, pinLevel, raiseMapped, ticked}
+use Rattle.acpi.specs.Event.{timerWraps, pinLevel, raiseMapped, ticked}
 use Rattle.acpi.specs.Fields.{
   raise,
   withCpu,
@@ -96,11 +96,11 @@ unfolding acpiInRange
 together a p c s e n x i t m = rw (p, c, s, e, n, x, i, t, m)
 
 -- a block, or what an access leaves, is in range
-abbrev Kept : Acpi → Type 0
-Kept a = acpiInRange a ≡ true
+abbrev StaysInRange : Acpi → Type 0
+StaysInRange a = acpiInRange a ≡ true
 
-abbrev KeptBy : Result Acpi → Type 0
-KeptBy r = Kept (r .block)
+abbrev ResultInRange : Result Acpi → Type 0
+ResultInRange r = StaysInRange (r .block)
 
 module _ (a : Acpi) (h : acpiInRange a ≡ true) where
   r : Ranged a
@@ -110,140 +110,140 @@ module _ (a : Acpi) (h : acpiInRange a ≡ true) where
   timer-below = ltb-true (a .timer) (2 ^ 24) (r .timer)
 
   -- ---- one register changed; levels, SCI_EN, sleep and GPE0 take any value
-  kept-pcnt : (v : ℕ) → within 0x17 v ≡ true → Kept (withPcnt a v)
+  kept-pcnt : (v : ℕ) → within 0x17 v ≡ true → StaysInRange (withPcnt a v)
   kept-pcnt v k =
       together (withPcnt a v) k (r .cpu) (r .pm1sts) (r .pm1en) (r .pm1cnt) (r .setupidx) (r .irq) (r .timer) (r .maps)
 
-  kept-cpu : (v : ℕ) → isCpuState v ≡ true → Kept (withCpu a v)
+  kept-cpu : (v : ℕ) → isCpuState v ≡ true → StaysInRange (withCpu a v)
   kept-cpu v k =
       together (withCpu a v) (r .pcnt) k (r .pm1sts) (r .pm1en) (r .pm1cnt) (r .setupidx) (r .irq) (r .timer) (r .maps)
 
-  kept-pm1sts : (v : ℕ) → within 0x8F31 v ≡ true → Kept (withPm1sts a v)
+  kept-pm1sts : (v : ℕ) → within 0x8F31 v ≡ true → StaysInRange (withPm1sts a v)
   kept-pm1sts v k =
       together (withPm1sts a v) (r .pcnt) (r .cpu) k (r .pm1en) (r .pm1cnt) (r .setupidx) (r .irq) (r .timer) (r .maps)
 
-  kept-pm1en : (v : ℕ) → within 0x0721 v ≡ true → Kept (withPm1en a v)
+  kept-pm1en : (v : ℕ) → within 0x0721 v ≡ true → StaysInRange (withPm1en a v)
   kept-pm1en v k =
       together (withPm1en a v) (r .pcnt) (r .cpu) (r .pm1sts) k (r .pm1cnt) (r .setupidx) (r .irq) (r .timer) (r .maps)
 
-  kept-pm1cnt : (v : ℕ) → within 0x1C02 v ≡ true → Kept (withPm1cnt a v)
+  kept-pm1cnt : (v : ℕ) → within 0x1C02 v ≡ true → StaysInRange (withPm1cnt a v)
   kept-pm1cnt v k =
       together (withPm1cnt a v) (r .pcnt) (r .cpu) (r .pm1sts) (r .pm1en) k (r .setupidx) (r .irq) (r .timer) (r .maps)
 
-  kept-setupidx : (v : ℕ) → isSetupIndex v ≡ true → Kept (withSetupidx a v)
+  kept-setupidx : (v : ℕ) → isSetupIndex v ≡ true → StaysInRange (withSetupidx a v)
   kept-setupidx v k =
       together (withSetupidx a v) (r .pcnt) (r .cpu) (r .pm1sts) (r .pm1en) (r .pm1cnt) k (r .irq) (r .timer) (r .maps)
 
-  kept-irq : (v : ℕ) → leb v 15 ≡ true → Kept (withIrq a v)
+  kept-irq : (v : ℕ) → leb v 15 ≡ true → StaysInRange (withIrq a v)
   kept-irq v k =
       together (withIrq a v) (r .pcnt) (r .cpu) (r .pm1sts) (r .pm1en) (r .pm1cnt) (r .setupidx) k (r .timer) (r .maps)
 
-  kept-timer : (v : ℕ) → ltb v (2 ^ 24) ≡ true → Kept (withTimer a v)
+  kept-timer : (v : ℕ) → ltb v (2 ^ 24) ≡ true → StaysInRange (withTimer a v)
   kept-timer v k =
       together (withTimer a v) (r .pcnt) (r .cpu) (r .pm1sts) (r .pm1en) (r .pm1cnt) (r .setupidx) (r .irq) k (r .maps)
 
-  kept-maps : (ms : List ℕ) → allBelow 8 (mapInRange ms) ≡ true → Kept (withMaps a ms)
+  kept-maps : (ms : List ℕ) → allBelow 8 (mapInRange ms) ≡ true → StaysInRange (withMaps a ms)
   kept-maps ms k =
       together (withMaps a ms) (r .pcnt) (r .cpu) (r .pm1sts) (r .pm1en) (r .pm1cnt) (r .setupidx) (r .irq) (r .timer) k
 
-  kept-raise : (bits : ℕ) → within 0x8F31 bits ≡ true → Kept (raise a bits)
+  kept-raise : (bits : ℕ) → within 0x8F31 bits ≡ true → StaysInRange (raise a bits)
   kept-raise bits k = kept-pm1sts (bitOr (a .pm1sts) bits) (within-or 0x8F31 (a .pm1sts) bits (r .pm1sts) k)
 
   -- ---- accesses
-  kept-read : (offset : ℕ) → KeptBy (registerRead a offset)
+  kept-read : (offset : ℕ) → ResultInRange (registerRead a offset)
   unfolding registerRead
   kept-read offset =
-      branch KeptBy (eqb offset 4) (kept-cpu 2 refl)
-      (branch KeptBy (eqb offset 5) (kept-cpu 3 refl) (branch KeptBy (eqb offset 20) h h))
+      branch ResultInRange (eqb offset 4) (kept-cpu 2 refl)
+      (branch ResultInRange (eqb offset 5) (kept-cpu 3 refl) (branch ResultInRange (eqb offset 20) h h))
 
-  kept-map : (pin v : ℕ) → KeptBy (mapWrite a pin v)
+  kept-map : (pin v : ℕ) → ResultInRange (mapWrite a pin v)
   unfolding mapWrite
   kept-map pin v =
-      branch-on KeptBy (legalMap v)
+      branch-on ResultInRange (legalMap v)
       (λ l. kept-maps (set (a .maps) pin v) (all-stored 8 (λ k. legalMap) (a .maps) pin v l (r .maps)))
       (λ l. h)
 
-  kept-setup : (v : ℕ) → KeptBy (setupWrite a v)
+  kept-setup : (v : ℕ) → ResultInRange (setupWrite a v)
   unfolding setupWrite irqWrite
   kept-setup v =
-      branch KeptBy (eqb (a .setupidx) 0x00) h
-      (branch KeptBy (isMapIndex (a .setupidx)) (kept-map (a .setupidx - 0x10) v)
-      (branch KeptBy (eqb (a .setupidx) 0x40) (kept-raise 0x0020 refl)
-      (branch KeptBy (eqb (a .setupidx) 0x41) (branch-on KeptBy (leb v 15) (kept-irq v) (λ l. h)) h)))
+      branch ResultInRange (eqb (a .setupidx) 0x00) h
+      (branch ResultInRange (isMapIndex (a .setupidx)) (kept-map (a .setupidx - 0x10) v)
+      (branch ResultInRange (eqb (a .setupidx) 0x40) (kept-raise 0x0020 refl)
+      (branch ResultInRange (eqb (a .setupidx) 0x41) (branch-on ResultInRange (leb v 15) (kept-irq v) (λ l. h)) h)))
 
-  kept-setup-index : (v : ℕ) → KeptBy (setupIndexWrite a v)
+  kept-setup-index : (v : ℕ) → ResultInRange (setupIndexWrite a v)
   unfolding setupIndexWrite
-  kept-setup-index v = branch-on KeptBy (isSetupIndex v) (kept-setupidx v) (λ l. h)
+  kept-setup-index v = branch-on ResultInRange (isSetupIndex v) (kept-setupidx v) (λ l. h)
 
-  kept-command : (v : ℕ) → KeptBy (commandWrite a v)
+  kept-command : (v : ℕ) → ResultInRange (commandWrite a v)
   unfolding commandWrite acpiInRange
-  kept-command v = branch KeptBy (eqb v 1) h (branch KeptBy (eqb v 2) h h)
+  kept-command v = branch ResultInRange (eqb v 1) h (branch ResultInRange (eqb v 2) h h)
 
-  kept-control : (v : ℕ) → KeptBy (controlWrite a v)
+  kept-control : (v : ℕ) → ResultInRange (controlWrite a v)
   unfolding controlWrite acpiInRange
   kept-control v =
       let k = kept-pm1cnt (bitAnd v 0x1C02) (within-masked 0x1C02 v) in
-      branch KeptBy (hasBit 0x2000 v) k k
+      branch ResultInRange (hasBit 0x2000 v) k k
 
-  kept-write : (offset v : ℕ) → KeptBy (registerWrite a offset v)
+  kept-write : (offset v : ℕ) → ResultInRange (registerWrite a offset v)
   unfolding registerWrite acpiInRange
   kept-write offset v =
-      branch KeptBy (eqb offset 0) (kept-pcnt (bitAnd v 0x17) (within-masked 0x17 v))
-      (branch KeptBy (eqb offset 6) (kept-command v)
-      (branch KeptBy (eqb offset 8)
+      branch ResultInRange (eqb offset 0) (kept-pcnt (bitAnd v 0x17) (within-masked 0x17 v))
+      (branch ResultInRange (eqb offset 6) (kept-command v)
+      (branch ResultInRange (eqb offset 8)
       (kept-pm1sts (cleared 0xFFFF (a .pm1sts) (bitAnd v 0xFFFF))
       (within-and 0x8F31 (a .pm1sts) (0xFFFF - bitAnd v 0xFFFF) (r .pm1sts)))
-      (branch KeptBy (eqb offset 10) (kept-pm1en (bitAnd v 0x0721) (within-masked 0x0721 v))
-      (branch KeptBy (eqb offset 12) (kept-control v)
-      (branch KeptBy (eqb offset 14) (kept-setup-index v)
-      (branch KeptBy (eqb offset 16) h
-      (branch KeptBy (eqb offset 18) h (branch KeptBy (eqb offset 20) (kept-setup v) h))))))))
+      (branch ResultInRange (eqb offset 10) (kept-pm1en (bitAnd v 0x0721) (within-masked 0x0721 v))
+      (branch ResultInRange (eqb offset 12) (kept-control v)
+      (branch ResultInRange (eqb offset 14) (kept-setup-index v)
+      (branch ResultInRange (eqb offset 16) h
+      (branch ResultInRange (eqb offset 18) h (branch ResultInRange (eqb offset 20) (kept-setup v) h))))))))
 
   pub access-in-range : (offset : ℕ) (x : Access) → acpiInRange (acpiAccess a offset x .block) ≡ true
   unfolding acpiAccess
   access-in-range offset x =
-      branch KeptBy (takes offset (x .width)) (branch KeptBy (x .write) (kept-write offset (x .value)) (kept-read offset)) h
+      branch ResultInRange (takes offset (x .width)) (branch ResultInRange (x .write) (kept-write offset (x .value)) (kept-read offset)) h
 
   -- ---- resets
   pub reset-in-range : (level : ℕ) → acpiInRange (acpiReset a level) ≡ true
   unfolding acpiReset acpiInRange legalMap
-  reset-in-range level = branch Kept (eqb level 0 || eqb level 1) h (branch Kept (eqb level 2) refl refl)
+  reset-in-range level = branch StaysInRange (eqb level 0 || eqb level 1) h (branch StaysInRange (eqb level 2) refl refl)
 
 -- ---- events and settling
-kept-ticked : (a : Acpi) → Kept a → (n : ℕ) → Kept (ticked a n)
+kept-ticked : (a : Acpi) → StaysInRange a → (n : ℕ) → StaysInRange (ticked a n)
 unfolding ticked
 kept-ticked a h n =
     let v = (a .timer + n) % 2 ^ 24 in
     let k = kept-timer a h v (lt-ltb v (2 ^ 24) (omega arith)) in
-    branch Kept (passed (a .timer) v) (kept-raise (withTimer a v) k 0x0001 refl) k
+    branch StaysInRange (timerWraps (a .timer) v) (kept-raise (withTimer a v) k 0x0001 refl) k
 
-kept-mapped : (a : Acpi) → Kept a → (m : ℕ) → Kept (raiseMapped a m)
+kept-mapped : (a : Acpi) → StaysInRange a → (m : ℕ) → StaysInRange (raiseMapped a m)
 unfolding raiseMapped acpiInRange
 kept-mapped a h m =
-    branch Kept (eqb (m % 256) 0x08) (kept-raise a h 0x0100 refl)
-    (branch Kept (eqb (m % 256) 0x09) (kept-raise a h 0x0200 refl) (branch Kept (isGpeTarget (m % 256)) h h))
+    branch StaysInRange (eqb (m % 256) 0x08) (kept-raise a h 0x0100 refl)
+    (branch StaysInRange (eqb (m % 256) 0x09) (kept-raise a h 0x0200 refl) (branch StaysInRange (isGpeTarget (m % 256)) h h))
 
-kept-pin : (a : Acpi) → Kept a → (pin : ℕ) (level : Bool) → Kept (pinLevel a pin level)
+kept-pin : (a : Acpi) → StaysInRange a → (pin : ℕ) (level : Bool) → StaysInRange (pinLevel a pin level)
 unfolding pinLevel acpiInRange
 kept-pin a h pin level =
-    branch Kept (inDirection (getD (a .maps) pin 0) (getD (a .levels) pin false) level)
+    branch StaysInRange (inDirection (getD (a .maps) pin 0) (getD (a .levels) pin false) level)
     (kept-mapped (withLevels a (set (a .levels) pin level)) h (getD (a .maps) pin 0))
     h
 
 pub event-in-range : (a : Acpi) → acpiInRange a ≡ true → (kind operand : ℕ) → acpiInRange (acpiEvent a kind operand) ≡ true
 unfolding acpiEvent
 event-in-range a h kind operand =
-    branch Kept (eqb kind 1) (kept-ticked a h operand)
-    (branch Kept (eqb kind 2) (kept-pin a h (operand % 8) (hasBit 0x08 operand))
-    (branch Kept (eqb kind 3) (kept-raise a h 0x0400 refl)
-    (branch Kept (eqb kind 4) (kept-raise a h 0x0010 refl) (branch Kept (eqb kind 7) (kept-raise a h 0x0800 refl) h))))
+    branch StaysInRange (eqb kind 1) (kept-ticked a h operand)
+    (branch StaysInRange (eqb kind 2) (kept-pin a h (operand % 8) (hasBit 0x08 operand))
+    (branch StaysInRange (eqb kind 3) (kept-raise a h 0x0400 refl)
+    (branch StaysInRange (eqb kind 4) (kept-raise a h 0x0010 refl) (branch StaysInRange (eqb kind 7) (kept-raise a h 0x0800 refl) h))))
 
-kept-wake : (a : Acpi) → Kept a → Kept (wake a)
+kept-wake : (a : Acpi) → StaysInRange a → StaysInRange (wake a)
 unfolding wake acpiInRange
-kept-wake a h = branch Kept (a .sleeping && pending a) (kept-raise (withSleeping a false) h 0x8000 refl) h
+kept-wake a h = branch StaysInRange (a .sleeping && pending a) (kept-raise (withSleeping a false) h 0x8000 refl) h
 
 pub settle-in-range : (a : Acpi) → acpiInRange a ≡ true → acpiInRange (acpiSettle a) ≡ true
 unfolding acpiSettle
 settle-in-range a h =
     let w = kept-wake a h in
-    branch Kept (sciOn (wake a) || smiOn (wake a)) (kept-cpu (wake a) w 0 refl) w
+    branch StaysInRange (sciOn (wake a) || smiOn (wake a)) (kept-cpu (wake a) w 0 refl) w

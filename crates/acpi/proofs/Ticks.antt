@@ -12,16 +12,16 @@ use Rattle.mask.proofs.Bits.{or-assoc}
 use Rattle.acpi.proofs.Settle.{awake, pending-awake, pending-raise, settle-idle, settle-pending}
 use Rattle.acpi.specs.Acpi.{acpiSettle}
 use Rattle.acpi.specs.Fields.{raise, withCpu, withPm1sts, withSleeping, withTimer}
-use Rattle.acpi.specs.Event.{passed, ticked}
+use Rattle.acpi.specs.Event.{timerWraps, ticked}
 use Rattle.acpi.specs.Settle.{pending}
 use Rattle.acpi.specs.Times.{times}
 use Rattle.acpi.specs.declared.Acpi.{Acpi}
 
 -- "TMR_STS (bit 0) is set when it passes from FFFFFFh to 0"
-pub passes-from : (t : ℕ) → t < 2 ^ 24 → passed t ((t + 1) % 2 ^ 24) ≡ eqb t 0xFFFFFF
+pub passes-from : (t : ℕ) → t < 2 ^ 24 → timerWraps t ((t + 1) % 2 ^ 24) ≡ eqb t 0xFFFFFF
 passes-from t h = pick (ℕ-discrete t 0xFFFFFF)
   where
-    pick : Dec (t ≡ 0xFFFFFF) → passed t ((t + 1) % 2 ^ 24) ≡ eqb t 0xFFFFFF
+    pick : Dec (t ≡ 0xFFFFFF) → timerWraps t ((t + 1) % 2 ^ 24) ≡ eqb t 0xFFFFFF
     pick (yes e) = lt-ltb ((t + 1) % 2 ^ 24) t (omega arith) ∙ sym (eq-eqb t 0xFFFFFF e)
     pick (no n) = le-ltb ((t + 1) % 2 ^ 24) t (omega arith) ∙ sym (ne-eqb t 0xFFFFFF n)
 
@@ -34,7 +34,7 @@ counted p a v = cond p (raise (withTimer a v) 0x0001) (withTimer a v)
 
 pub pending-ticked : (a : Acpi) (n : ℕ) → pending a ≡ true → pending (ticked a n) ≡ true
 unfolding ticked pending
-pending-ticked a n h = pick (passed (a .timer) ((a .timer + n) % 2 ^ 24))
+pending-ticked a n h = pick (timerWraps (a .timer) ((a .timer + n) % 2 ^ 24))
   where
     pick : (p : Bool) → pending (counted p a ((a .timer + n) % 2 ^ 24)) ≡ true
     pick true = pending-raise a 0x0001 h
@@ -54,8 +54,8 @@ awake-ticked a n = pick (a .sleeping)
     both false false v = refl
 
     pick : (s : Bool) → awake (ticked (awake (withSleeping a s)) n) ≡ awake (ticked (withSleeping a s) n)
-    pick true = both true (passed (a .timer) ((a .timer + n) % 2 ^ 24)) ((a .timer + n) % 2 ^ 24)
-    pick false = both false (passed (a .timer) ((a .timer + n) % 2 ^ 24)) ((a .timer + n) % 2 ^ 24)
+    pick true = both true (timerWraps (a .timer) ((a .timer + n) % 2 ^ 24)) ((a .timer + n) % 2 ^ 24)
+    pick false = both false (timerWraps (a .timer) ((a .timer + n) % 2 ^ 24)) ((a .timer + n) % 2 ^ 24)
 
 pub settle-between : (a : Acpi) (n : ℕ) → acpiSettle (ticked (acpiSettle a) n) ≡ acpiSettle (ticked a n)
 settle-between a n = pick (pending a) refl
@@ -76,10 +76,10 @@ counted-twice false true a u v = refl
 counted-twice false false a u v = refl
 
 -- fewer than 2^24 ticks pass FFFFFFh at most once: before the last tick, or with it
-passed-once : (t n : ℕ) → t < 2 ^ 24 → suc n < 2 ^ 24
-    → (passed t ((t + n) % 2 ^ 24) || passed ((t + n) % 2 ^ 24) (((t + n) % 2 ^ 24 + 1) % 2 ^ 24))
-    ≡ passed t (((t + n) % 2 ^ 24 + 1) % 2 ^ 24)
-passed-once t n h l = pick (passed t u) (passed u v) refl refl
+timer-wraps-once : (t n : ℕ) → t < 2 ^ 24 → suc n < 2 ^ 24
+    → (timerWraps t ((t + n) % 2 ^ 24) || timerWraps ((t + n) % 2 ^ 24) (((t + n) % 2 ^ 24 + 1) % 2 ^ 24))
+    ≡ timerWraps t (((t + n) % 2 ^ 24 + 1) % 2 ^ 24)
+timer-wraps-once t n h l = pick (timerWraps t u) (timerWraps u v) refl refl
   where
     u : ℕ
     u = (t + n) % 2 ^ 24
@@ -87,7 +87,7 @@ passed-once t n h l = pick (passed t u) (passed u v) refl refl
     v : ℕ
     v = (u + 1) % 2 ^ 24
 
-    pick : (p q : Bool) → passed t u ≡ p → passed u v ≡ q → (p || q) ≡ passed t v
+    pick : (p q : Bool) → timerWraps t u ≡ p → timerWraps u v ≡ q → (p || q) ≡ timerWraps t v
     pick true q e f = let g = ltb-true u t e in sym (lt-ltb v t (omega arith))
     pick false true e f =
         let g = ltb-false u t e in
@@ -102,16 +102,16 @@ pub ticked-more : (a : Acpi) (n : ℕ) → a .timer < 2 ^ 24 → suc n < 2 ^ 24 
 unfolding ticked
 ticked-more a n h l =
     let same : (a .timer + suc n) % 2 ^ 24 ≡ (u + 1) % 2 ^ 24 = omega arith in
-    ap (λ (x : ℕ). counted (passed (a .timer) x) a x) same
-    ∙ ap (λ (p : Bool). counted p a ((u + 1) % 2 ^ 24)) (sym (passed-once (a .timer) n h l))
-    ∙ sym (pick (passed (a .timer) u))
+    ap (λ (x : ℕ). counted (timerWraps (a .timer) x) a x) same
+    ∙ ap (λ (p : Bool). counted p a ((u + 1) % 2 ^ 24)) (sym (timer-wraps-once (a .timer) n h l))
+    ∙ sym (pick (timerWraps (a .timer) u))
   where
     u : ℕ
     u = (a .timer + n) % 2 ^ 24
 
-    pick : (p : Bool) → ticked (counted p a u) 1 ≡ counted (p || passed u ((u + 1) % 2 ^ 24)) a ((u + 1) % 2 ^ 24)
-    pick true = counted-twice true (passed u ((u + 1) % 2 ^ 24)) a u ((u + 1) % 2 ^ 24)
-    pick false = counted-twice false (passed u ((u + 1) % 2 ^ 24)) a u ((u + 1) % 2 ^ 24)
+    pick : (p : Bool) → ticked (counted p a u) 1 ≡ counted (p || timerWraps u ((u + 1) % 2 ^ 24)) a ((u + 1) % 2 ^ 24)
+    pick true = counted-twice true (timerWraps u ((u + 1) % 2 ^ 24)) a u ((u + 1) % 2 ^ 24)
+    pick false = counted-twice false (timerWraps u ((u + 1) % 2 ^ 24)) a u ((u + 1) % 2 ^ 24)
 
 -- "1 ticks (0 to 65,535; from 1 up, same as that many single ticks)"
 pub ticks : (a : Acpi) (n : ℕ) → a .timer < 2 ^ 24 → 1 ≤ n → n ≤ 65535

@@ -9,13 +9,13 @@ use Rattle.acpi.specs.Map.{inDirection, isGpeTarget}
 use Rattle.acpi.specs.declared.Acpi.{Acpi}
 
 -- "TMR_STS (bit 0) is set when it passes from FFFFFFh to 0": of at most 65,535 ticks, exactly if the timer is then less
-abbrev pub passed : ℕ → ℕ → Bool
-passed before after = ltb after before
+abbrev pub timerWraps : ℕ → ℕ → Bool
+timerWraps before after = ltb after before
 
 -- n ticks; that this is n single ticks is a law
 unfoldable pub ticked : Acpi → ℕ → Acpi
 ticked a n =
-    cond (passed (a .timer) ((a .timer + n) % 2 ^ 24)) (raise (withTimer a ((a .timer + n) % 2 ^ 24)) 0x0001)
+    cond (timerWraps (a .timer) ((a .timer + n) % 2 ^ 24)) (raise (withTimer a ((a .timer + n) % 2 ^ 24)) 0x0001)
     (withTimer a ((a .timer + n) % 2 ^ 24))
 
 -- the bit that a map value names is set

@@ -12,23 +12,23 @@ use Rattle.script.specs.Nested.{Body, done, write, read, delay, repeat, if, ifE
 use Rattle.script.specs.Records.{recordsOf}
 use Rattle.script.specs.Refusals.{firstFault, scriptRefusal}
 use Rattle.script.proofs.Flat.{accepts, reading-flat}
-use Rattle.compiler.specs.Emit.{ahead, emitFlat, framesAfter}
-use Rattle.compiler.specs.Words.{behind, emit, halt, word, wordsOf}
+use Rattle.compiler.specs.Emit.{lookAhead, emitFlat, framesAfter}
+use Rattle.compiler.specs.Words.{placeAfter, emit, halt, word, wordsOf}
 
 -- ---- a record, looked at from a block around it: one that closes no block, an end of a loop
 pub ahead-word : (frames : List ℕ) (place : ℕ) (r : Record) (rs : List Record) → eqb (r .kind) 6 ≡ false
     → eqb (r .kind) 7 ≡ false
-    → ahead frames place (r ∷ rs) ≡ ahead (framesAfter frames place (r .kind)) (suc place) rs
+    → lookAhead frames place (r ∷ rs) ≡ lookAhead (framesAfter frames place (r .kind)) (suc place) rs
 ahead-word [] place r rs s e = simp (e, s)
 ahead-word (f ∷ fs) place r rs s e = simp e
 
 ahead-loop-end : (frames : List ℕ) (at place : ℕ) (tl : List Record)
-    → ahead (suc at ∷ frames) place (endRecord ∷ tl) ≡ ahead frames (suc place) tl
+    → lookAhead (suc at ∷ frames) place (endRecord ∷ tl) ≡ lookAhead frames (suc place) tl
 ahead-loop-end frames at place tl = rw (ne-eqb (suc at) 0 (omega arith))
 
 -- the look-ahead passes over a body
 pub ahead-flat : (b : Body) (frames : List ℕ) (at : ℕ) (tl : List Record)
-    → ahead frames at (flat b tl) ≡ ahead frames (behind at b) tl
+    → lookAhead frames at (flat b tl) ≡ lookAhead frames (placeAfter at b) tl
 ahead-flat done frames at tl = refl
 ahead-flat (write p w v rest) frames at tl =
     ahead-word frames at (scriptRecord 1 w p v) (flat rest tl) refl refl ∙ ahead-flat rest frames (suc at) tl
@@ -39,23 +39,23 @@ ahead-flat (delay n rest) frames at tl =
 ahead-flat (repeat n b rest) frames at tl =
     ahead-word frames at (scriptRecord 4 0 0 n) (flat b (endRecord ∷ flat rest tl)) refl refl
     ∙ ahead-flat b (suc at ∷ frames) (suc at) (endRecord ∷ flat rest tl)
-    ∙ ahead-loop-end frames at (behind (suc at) b) (flat rest tl)
-    ∙ ahead-flat rest frames (suc (behind (suc at) b)) tl
+    ∙ ahead-loop-end frames at (placeAfter (suc at) b) (flat rest tl)
+    ∙ ahead-flat rest frames (suc (placeAfter (suc at) b)) tl
 ahead-flat (if p w m b rest) frames at tl =
     ahead-word frames at (scriptRecord 5 w p m) (flat b (endRecord ∷ flat rest tl)) refl refl
     ∙ ahead-flat b (0 ∷ frames) (suc at) (endRecord ∷ flat rest tl)
-    ∙ ahead-flat rest frames (behind (suc at) b) tl
+    ∙ ahead-flat rest frames (placeAfter (suc at) b) tl
 ahead-flat (ifElse p w m b c rest) frames at tl =
     ahead-word frames at (scriptRecord 5 w p m) (flat b (elseRecord ∷ flat c (endRecord ∷ flat rest tl))) refl refl
     ∙ ahead-flat b (0 ∷ frames) (suc at) (elseRecord ∷ flat c (endRecord ∷ flat rest tl))
-    ∙ ahead-flat c (0 ∷ frames) (suc (behind (suc at) b)) (endRecord ∷ flat rest tl)
-    ∙ ahead-flat rest frames (behind (suc (behind (suc at) b)) c) tl
+    ∙ ahead-flat c (0 ∷ frames) (suc (placeAfter (suc at) b)) (endRecord ∷ flat rest tl)
+    ∙ ahead-flat rest frames (placeAfter (suc (placeAfter (suc at) b)) c) tl
 
 -- ---- where a block leads, looked at from its first record
-to-end : (at : ℕ) (b : Body) (tl : List Record) → ahead [] at (flat b (endRecord ∷ tl)) ≡ behind at b
+to-end : (at : ℕ) (b : Body) (tl : List Record) → lookAhead [] at (flat b (endRecord ∷ tl)) ≡ placeAfter at b
 to-end at b tl = ahead-flat b [] at (endRecord ∷ tl)
 
-to-else : (at : ℕ) (b : Body) (tl : List Record) → ahead [] at (flat b (elseRecord ∷ tl)) ≡ suc (behind at b)
+to-else : (at : ℕ) (b : Body) (tl : List Record) → lookAhead [] at (flat b (elseRecord ∷ tl)) ≡ suc (placeAfter at b)
 to-else at b tl = ahead-flat b [] at (elseRecord ∷ tl)
 
 loop-end : (frames : List ℕ) (at place : ℕ) (tl : List Record)
@@ -64,7 +64,7 @@ loop-end frames at place tl = rw (ne-eqb (suc at) 0 (omega arith))
 
 -- the walk gives a body's words
 pub emit-flat : (b : Body) (frames : List ℕ) (at : ℕ) (tl : List Record)
-    → emitFlat frames at (flat b tl) ≡ emit at b (emitFlat frames (behind at b) tl)
+    → emitFlat frames at (flat b tl) ≡ emit at b (emitFlat frames (placeAfter at b) tl)
 emit-flat done frames at tl = refl
 emit-flat (write p w v rest) frames at tl = rw (emit-flat rest frames (suc at) tl)
 emit-flat (read p w rest) frames at tl = rw (emit-flat rest frames (suc at) tl)
@@ -73,22 +73,22 @@ emit-flat (repeat n b rest) frames at tl =
     rw (
       to-end (suc at) b (flat rest tl),
       emit-flat b (suc at ∷ frames) (suc at) (endRecord ∷ flat rest tl),
-      loop-end frames at (behind (suc at) b) (flat rest tl),
-      emit-flat rest frames (suc (behind (suc at) b)) tl,
+      loop-end frames at (placeAfter (suc at) b) (flat rest tl),
+      emit-flat rest frames (suc (placeAfter (suc at) b)) tl,
     )
 emit-flat (if p w m b rest) frames at tl =
     rw (
       to-end (suc at) b (flat rest tl),
       emit-flat b (0 ∷ frames) (suc at) (endRecord ∷ flat rest tl),
-      emit-flat rest frames (behind (suc at) b) tl,
+      emit-flat rest frames (placeAfter (suc at) b) tl,
     )
 emit-flat (ifElse p w m b c rest) frames at tl =
     rw (
       to-else (suc at) b (flat c (endRecord ∷ flat rest tl)),
       emit-flat b (0 ∷ frames) (suc at) (elseRecord ∷ flat c (endRecord ∷ flat rest tl)),
-      to-end (suc (behind (suc at) b)) c (flat rest tl),
-      emit-flat c (0 ∷ frames) (suc (behind (suc at) b)) (endRecord ∷ flat rest tl),
-      emit-flat rest frames (behind (suc (behind (suc at) b)) c) tl,
+      to-end (suc (placeAfter (suc at) b)) c (flat rest tl),
+      emit-flat c (0 ∷ frames) (suc (placeAfter (suc at) b)) (endRecord ∷ flat rest tl),
+      emit-flat rest frames (placeAfter (suc (placeAfter (suc at) b)) c) tl,
     )
 
 -- the walk over an accepted list gives the words of its nested reading

@@ -11,45 +11,46 @@ use lib.Dec.{eqb, ltb}
 use lib.ListN.{length, drop}
 use Rattle.record.specs.Record.{recordSize}
 use Rattle.script.specs.Records.{recordCount}
-use Rattle.script.specs.Refusals.{refusal, scriptRefusal, wordsIn}
+use Rattle.script.specs.Refusals.{scriptRefusal, wordsIn}
+use Rattle.outcome.specs.Refusal.{refusal}
 use Rattle.script.specs.Scan.{scriptScan}
-use Rattle.script.specs.declared.Found.{Found}
+use Rattle.script.specs.declared.ScanResult.{ScanResult}
 use Rattle.script.proofs.Records.{counts}
-use Rattle.compiler.specs.Compile.{compiled, compileRefusal, imageAfter, tooShort}
+use Rattle.compiler.specs.Compile.{compileResult, compileRefusal, imageAfter, tooShort}
 use Rattle.compiler.specs.Words.{imageBytes, wordsOf}
-use Rattle.compiler.specs.declared.Compiled.{Compiled}
+use Rattle.compiler.specs.declared.CompileResult.{CompileResult}
 use Rattle.compiler.proofs.Places.{count-words}
 
-module _ (script image : List ℕ) (s : Found) (e : s ≡ scriptScan script) where
+module _ (script image : List ℕ) (s : ScanResult) (e : s ≡ scriptScan script) where
   number-is : s .number ≡ scriptRefusal script .number
   unfolding scriptScan
-  number-is = ap (λ (x : Found). x .number) e
+  number-is = ap (λ (x : ScanResult). x .number) e
 
   place-is : s .place ≡ scriptRefusal script .place
   unfolding scriptScan
-  place-is = ap (λ (x : Found). x .place) e
+  place-is = ap (λ (x : ScanResult). x .place) e
 
   pub accepted-by : s .number ≡ 0 → scriptRefusal script .number ≡ 0
   accepted-by z = sym number-is ∙ z
 
   pub words-are : s .number ≡ 0 → s .words ≡ wordsIn script
   unfolding scriptScan
-  words-are z = ap (λ (x : Found). x .words) e ∙ (rw (accepted-by z))
+  words-are z = ap (λ (x : ScanResult). x .words) e ∙ (rw (accepted-by z))
 
   -- ---- refused by the scan
   pub refused : (s .number ≡ 0 → ⊥)
-      → (_≡_ {A = Compiled} (record { refusal = s .number; place = s .place; words = 0 }) (compiled script image))
+      → (_≡_ {A = CompileResult} (record { refusal = s .number; place = s .place; words = 0 }) (compileResult script image))
       × (image ≡ imageAfter script image)
-  unfolding compiled imageAfter compileRefusal
+  unfolding compileResult imageAfter compileRefusal
   refused z =
       let n : eqb (scriptRefusal script .number) 0 ≡ false = rw number-is at (ne-eqb (s .number) 0 z) in
       (rw (n, n, number-is, place-is), rw (n, n))
 
   -- ---- the words do not fit
   pub unfit : s .number ≡ 0 → ltb (length image) (recordSize * s .words) ≡ true
-      → (_≡_ {A = Compiled} (record { refusal = 9; place = recordCount script % 4096; words = 0 }) (compiled script image))
+      → (_≡_ {A = CompileResult} (record { refusal = 9; place = recordCount script % 4096; words = 0 }) (compileResult script image))
       × (image ≡ imageAfter script image)
-  unfolding compiled imageAfter compileRefusal
+  unfolding compileResult imageAfter compileRefusal
   unfit z l =
       let t : tooShort script image ≡ true = rw (words-are z) at l in
       let c = counts script (recordCount script) refl (accepted-by z) in
@@ -64,18 +65,18 @@ module _ (script image : List ℕ) (s : Found) (e : s ≡ scriptScan script) whe
 
   pub done : (now : List ℕ) → s .number ≡ 0 → ltb (length image) (recordSize * s .words) ≡ false
       → now ≡ imageBytes (wordsOf script) ++ drop (recordSize * length (wordsOf script)) image
-      → (_≡_ {A = Compiled} (record { refusal = 0; place = 0; words = s .words }) (compiled script image))
+      → (_≡_ {A = CompileResult} (record { refusal = 0; place = 0; words = s .words }) (compileResult script image))
       × (now ≡ imageAfter script image)
-  unfolding compiled imageAfter compileRefusal
+  unfolding compileResult imageAfter compileRefusal
   done now z l i =
       let t : tooShort script image ≡ false = rw (words-are z) at l in
       (rw (accepted-by z, t, words-are z), i ∙ (rw (accepted-by z, t, count-words script (accepted-by z))))
 
 -- "The compiler refuses a script exactly when it meets one of refusals 1 to 8 or the image buffer is shorter than its
 -- words."
-pub refuses-not : (script image : List ℕ) → compiled script image .refusal ≡ 0
+pub refuses-not : (script image : List ℕ) → compileResult script image .refusal ≡ 0
     → (scriptRefusal script .number ≡ 0) × (recordSize * wordsIn script ≤ length image)
-unfolding compiled compileRefusal
+unfolding compileResult compileRefusal
 refuses-not script image h =
     pick (eqb (scriptRefusal script .number) 0) (tooShort script image) refl refl h
   where
@@ -88,6 +89,6 @@ refuses-not script image h =
     pick false b p q z = absurd (eqb-false (scriptRefusal script .number) 0 p z)
 
 pub accepts-all : (script image : List ℕ) → scriptRefusal script .number ≡ 0 → recordSize * wordsIn script ≤ length image
-    → compiled script image .refusal ≡ 0
-unfolding compiled compileRefusal
+    → compileResult script image .refusal ≡ 0
+unfolding compileResult compileRefusal
 accepts-all script image z l = rw (z, le-ltb (length image) (recordSize * wordsIn script) l)

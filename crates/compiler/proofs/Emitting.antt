@@ -13,8 +13,8 @@ use Rattle.record.specs.declared.Record.{Record}
 use Rattle.script.specs.Records.{recordCount, recordsFrom, recordsOf}
 use Rattle.script.specs.Refusals.{innermost, scriptRefusal}
 use Rattle.script.proofs.Flat.{accepts}
-use Rattle.script.proofs.Records.{Counted, behind-last, counts, from-here}
-use Rattle.compiler.specs.Emit.{ahead, Aimed, emitFlat, framesAfter, gives, targetFor, wordFor, wordKind}
+use Rattle.script.proofs.Records.{Counted, after-last, counts, from-here}
+use Rattle.compiler.specs.Emit.{lookAhead, TargetsFrom, emitFlat, framesAfter, emitsWord, targetFor, wordFor, wordKind}
 use Rattle.compiler.specs.Words.{halt, imageBytes, word, wordsOf}
 use Rattle.compiler.proofs.Ahead.{emit-script}
 use Rattle.compiler.proofs.Image.{one-more-word}
@@ -27,7 +27,7 @@ pub record Emitting (script lent targets image : List ℕ) (count place k : ℕ)
   pub fits : recordSize * length (wordsOf script) ≤ length lent
   pub inside : k ≤ count
   pub frames : List ℕ
-  pub aimed : Aimed targets k frames place (recordsFrom (count - k) k script)
+  pub aimed : TargetsFrom targets k frames place (recordsFrom (count - k) k script)
   pub words : List Record
   pub whole : words ++ emitFlat frames place (recordsFrom (count - k) k script) ≡ wordsOf script
   pub many : length words ≡ place
@@ -36,7 +36,7 @@ pub record Emitting (script lent targets image : List ℕ) (count place k : ℕ)
 
 pub begins : (script lent targets : List ℕ) (count : ℕ) → count ≡ recordCount script
     → scriptRefusal script .number ≡ 0 → recordSize * length (wordsOf script) ≤ length lent
-    → Aimed targets 0 [] 0 (recordsOf script) → Emitting script lent targets lent count 0 0
+    → TargetsFrom targets 0 [] 0 (recordsOf script) → Emitting script lent targets lent count 0 0
 unfolding recordsOf
 begins script lent targets count e h l a =
     let c : count - 0 ≡ recordCount script = omega arith in
@@ -58,20 +58,20 @@ begins script lent targets count e h l a =
 some-word : (rs : List Record) (frames : List ℕ) (place : ℕ) → 1 ≤ length (emitFlat frames place rs)
 some-word [] frames place = omega arith
 some-word (r ∷ rs) frames place =
-    pick (gives (innermost frames) (r .kind)) (some-word rs (framesAfter frames place (r .kind)) place)
+    pick (emitsWord (innermost frames) (r .kind)) (some-word rs (framesAfter frames place (r .kind)) place)
   where
     pick : (b : Bool) → 1 ≤ length (emitFlat (framesAfter frames place (r .kind)) place rs)
         → 1
         ≤ length
         (cond b
-        (wordFor (innermost frames) (ahead [] (suc place) rs) r ∷ emitFlat (framesAfter frames place (r .kind)) (suc place) rs)
+        (wordFor (innermost frames) (lookAhead [] (suc place) rs) r ∷ emitFlat (framesAfter frames place (r .kind)) (suc place) rs)
         (emitFlat (framesAfter frames place (r .kind)) place rs))
     pick true h = omega arith
     pick false h = h
 
 -- a target tells whether its record gives a word
-gives-by : (frame lead kind : ℕ) → gives (targetFor frame lead kind) kind ≡ gives frame kind
-gives-by frame lead kind = pick (eqb kind 7) _
+emits-by : (frame lead kind : ℕ) → emitsWord (targetFor frame lead kind) kind ≡ emitsWord frame kind
+emits-by frame lead kind = pick (eqb kind 7) _
   where
     pick : (b : Bool) (t : ℕ) → not (b && eqb (cond b frame t) 0) ≡ not (b && eqb frame 0)
     pick true t = refl
@@ -97,31 +97,31 @@ module _ {script lent targets image : List ℕ} {count place k : ℕ} (g : Emitt
     rest = recordsFrom (count - (k + 1)) (k + 1) script
 
     abbrev lead : ℕ
-    lead = ahead [] (suc place) rest
+    lead = lookAhead [] (suc place) rest
 
     here : recordsFrom (count - k) k script ≡ r ∷ rest
     here = rw (from-here script count k h, e)
 
-    aimed-on : Aimed targets k (g .frames) place (r ∷ rest)
+    aimed-on : TargetsFrom targets k (g .frames) place (r ∷ rest)
     aimed-on = rw here at (g .aimed)
 
     target-is : getD targets k 0 ≡ targetFor (innermost (g .frames)) lead (r .kind)
     target-is = aimed-on .0
 
-    gives-so : gives (getD targets k 0) (r .kind) ≡ gives (innermost (g .frames)) (r .kind)
-    gives-so = rw target-is (gives-by (innermost (g .frames)) lead (r .kind))
+    emits-so : emitsWord (getD targets k 0) (r .kind) ≡ emitsWord (innermost (g .frames)) (r .kind)
+    emits-so = rw target-is (emits-by (innermost (g .frames)) lead (r .kind))
 
     unrolled : g .words ++ emitFlat (g .frames) place (r ∷ rest) ≡ wordsOf script
     unrolled =
         ap (λ (l : List Record). g .words ++ emitFlat (g .frames) place l) (sym here) ∙ g .whole
 
     -- it gives a word, which is written
-    pub goes-on : {w : Record} {now : List ℕ} → gives (getD targets k 0) (r .kind) ≡ true
+    pub goes-on : {w : Record} {now : List ℕ} → emitsWord (getD targets k 0) (r .kind) ≡ true
         → w ≡ word (wordKind (r .kind)) (r .width) (r .port) (getD targets k 0) (r .value)
         → now ≡ take (recordSize * place) image ++ (bytesOf w ++ drop recordSize (drop (recordSize * place) image)) → length now ≡ length image
         → Emitting script lent targets now count (place + 1) (k + 1)
     goes-on {w = w} b m i l =
-        let y : gives (innermost (g .frames)) (r .kind) ≡ true = sym gives-so ∙ b in
+        let y : emitsWord (innermost (g .frames)) (r .kind) ≡ true = sym emits-so ∙ b in
         record {
           counted = g .counted;
           few-words = g .few-words;
@@ -137,9 +137,9 @@ module _ {script lent targets image : List ℕ} {count place k : ℕ} (g : Emitt
         }
 
     -- it gives none
-    pub passes : gives (getD targets k 0) (r .kind) ≡ false → Emitting script lent targets image count place (k + 1)
+    pub passes : emitsWord (getD targets k 0) (r .kind) ≡ false → Emitting script lent targets image count place (k + 1)
     passes b =
-        let n : gives (innermost (g .frames)) (r .kind) ≡ false = sym gives-so ∙ b in
+        let n : emitsWord (innermost (g .frames)) (r .kind) ≡ false = sym emits-so ∙ b in
         record {
           counted = g .counted;
           few-words = g .few-words;
@@ -160,7 +160,7 @@ module _ {script lent targets image : List ℕ} {count place k : ℕ} (g : Emitt
       → now ≡ imageBytes (wordsOf script) ++ drop (recordSize * length (wordsOf script)) lent
   completes h i =
       let e : g .words ++ (halt ∷ []) ≡ wordsOf script =
-      rw (behind-last script count k h) at (g .whole) in
+      rw (after-last script count k h) at (g .whole) in
       let n : place + 1 ≡ length (wordsOf script) =
       sym (ap length (sym e) ∙ length-append (g .words) (halt ∷ []) ∙ (rw (g .many))) in
       i ∙ one-more-word (g .words) halt lent image place (g .many) (g .written) ∙ (rw (e, n))

@@ -17,8 +17,8 @@ use Rattle.record.specs.declared.Record.{Record}
 use Rattle.script.specs.Records.{recordCount, recordsFrom, recordsOf}
 use Rattle.script.specs.Refusals.{scriptRefusal}
 use Rattle.script.proofs.Flat.{accepted, accepts, numbers}
-use Rattle.script.proofs.Records.{Counted, behind-last, counts, from-here}
-use Rattle.compiler.specs.Emit.{Aimed, placeAfter}
+use Rattle.script.proofs.Records.{Counted, after-last, counts, from-here}
+use Rattle.compiler.specs.Emit.{TargetsFrom, placeAfterRecord}
 use Rattle.compiler.proofs.Targets.{Aiming, as-many, completes, elses-wait, ends-close, first-waits, ifs-open, next, Next, none, passes, repeats-open}
 
 -- ---- what holds before record k
@@ -174,17 +174,17 @@ module _ {script : List ℕ} {count : ℕ} {table waiting starts : List ℕ} {de
         replaced : stackOf depth (set waiting (depth - 1) k) ≡ k ∷ stackOf (depth - 1) waiting
         replaced = stack-set-top depth waiting k o (omega (arith, g .wide, g .deep))
 
-    pub ended : (behind : ℕ) → 5 < kind → (kind ≡ 6 → ⊥) → behind ≡ placeAfter (getD starts (depth - 1) 0) place 7
-        → Filling script count (set (set table k (getD starts (depth - 1) 0)) (getD waiting (depth - 1) 0) behind) waiting
-        starts (depth - 1) behind (k + 1)
-    ended behind l n p = record {
+    pub ended : (placeAfter : ℕ) → 5 < kind → (kind ≡ 6 → ⊥) → placeAfter ≡ placeAfterRecord (getD starts (depth - 1) 0) place 7
+        → Filling script count (set (set table k (getD starts (depth - 1) 0)) (getD waiting (depth - 1) 0) placeAfter) waiting
+        starts (depth - 1) placeAfter (k + 1)
+    ended placeAfter l n p = record {
       counted = g .counted;
       inside = omega (arith, t .within);
       near = omega (arith, g .near, p, one-on (eqb frame 0));
       deep = omega (arith, g .deep);
       long = simp length-set (g .long);
       wide = g .wide;
-      aiming = ends-close top sized behind (is 7 (omega (arith, after .most, t .kind-is, n))) p;
+      aiming = ends-close top sized placeAfter (is 7 (omega (arith, after .most, t .kind-is, n))) p;
     }
       where
         one-on : (b : Bool) → cond (not b) (suc place) place ≤ place + 1
@@ -193,5 +193,5 @@ module _ {script : List ℕ} {count : ℕ} {table waiting starts : List ℕ} {de
 
 -- ---- behind the last record
 pub filled : {script : List ℕ} {count : ℕ} {table waiting starts : List ℕ} {depth place k : ℕ}
-    → Filling script count table waiting starts depth place k → count ≤ k → Aimed table 0 [] 0 (recordsOf script)
-filled {script = script} {count = count} {k = k} g h = completes (rw (behind-last script count k h) at (g .aiming))
+    → Filling script count table waiting starts depth place k → count ≤ k → TargetsFrom table 0 [] 0 (recordsOf script)
+filled {script = script} {count = count} {k = k} g h = completes (rw (after-last script count k h) at (g .aiming))

@@ -10,79 +10,79 @@ use Rattle.script.specs.Nested.{Body, done, write, read, delay, repeat, if, ifE
 use Rattle.script.specs.Records.{recordsOf}
 use Rattle.script.specs.Refusals.{firstFault, scriptRefusal, wordCount, wordsIn}
 use Rattle.script.proofs.Flat.{accepts, reading-flat}
-use Rattle.compiler.specs.Words.{behind, emit, halt, word, wordsOf}
+use Rattle.compiler.specs.Words.{placeAfter, emit, halt, word, wordsOf}
 
 -- the place behind a body is not before it
-pub behind-from : (b : Body) (at : ℕ) → at ≤ behind at b
-behind-from done at = omega arith
-behind-from (write p w v rest) at = let i = behind-from rest (suc at) in omega arith
-behind-from (read p w rest) at = let i = behind-from rest (suc at) in omega arith
-behind-from (delay n rest) at = let i = behind-from rest (suc at) in omega arith
-behind-from (repeat n b rest) at =
-    let i = behind-from b (suc at) in
-    let j = behind-from rest (suc (behind (suc at) b)) in
+pub after-from : (b : Body) (at : ℕ) → at ≤ placeAfter at b
+after-from done at = omega arith
+after-from (write p w v rest) at = let i = after-from rest (suc at) in omega arith
+after-from (read p w rest) at = let i = after-from rest (suc at) in omega arith
+after-from (delay n rest) at = let i = after-from rest (suc at) in omega arith
+after-from (repeat n b rest) at =
+    let i = after-from b (suc at) in
+    let j = after-from rest (suc (placeAfter (suc at) b)) in
     omega arith
-behind-from (if p w m b rest) at =
-    let i = behind-from b (suc at) in
-    let j = behind-from rest (behind (suc at) b) in
+after-from (if p w m b rest) at =
+    let i = after-from b (suc at) in
+    let j = after-from rest (placeAfter (suc at) b) in
     omega arith
-behind-from (ifElse p w m b c rest) at =
-    let i = behind-from b (suc at) in
-    let j = behind-from c (suc (behind (suc at) b)) in
-    let k = behind-from rest (behind (suc (behind (suc at) b)) c) in
+after-from (ifElse p w m b c rest) at =
+    let i = after-from b (suc at) in
+    let j = after-from c (suc (placeAfter (suc at) b)) in
+    let k = after-from rest (placeAfter (suc (placeAfter (suc at) b)) c) in
     omega arith
 
 -- a body's words are as many as the places from its first to the one behind it
-pub emit-length : (b : Body) (at : ℕ) (ws : List Record) → length (emit at b ws) + at ≡ behind at b + length ws
+pub emit-length : (b : Body) (at : ℕ) (ws : List Record) → length (emit at b ws) + at ≡ placeAfter at b + length ws
 emit-length done at ws = omega arith
 emit-length (write p w v rest) at ws = let i = emit-length rest (suc at) ws in omega arith
 emit-length (read p w rest) at ws = let i = emit-length rest (suc at) ws in omega arith
 emit-length (delay n rest) at ws = let i = emit-length rest (suc at) ws in omega arith
 emit-length (repeat n b rest) at ws =
-    let l = emit (suc (behind (suc at) b)) rest ws in
+    let l = emit (suc (placeAfter (suc at) b)) rest ws in
     let i = emit-length b (suc at) (word 5 0 0 (suc at) 0 ∷ l) in
-    let j = emit-length rest (suc (behind (suc at) b)) ws in
+    let j = emit-length rest (suc (placeAfter (suc at) b)) ws in
     omega arith
 emit-length (if p w m b rest) at ws =
-    let i = emit-length b (suc at) (emit (behind (suc at) b) rest ws) in
-    let j = emit-length rest (behind (suc at) b) ws in
+    let i = emit-length b (suc at) (emit (placeAfter (suc at) b) rest ws) in
+    let j = emit-length rest (placeAfter (suc at) b) ws in
     omega arith
 emit-length (ifElse p w m b c rest) at ws =
-    let middle = suc (behind (suc at) b) in
-    let l = emit (behind middle c) rest ws in
-    let i = emit-length b (suc at) (word 7 0 0 (behind middle c) 0 ∷ emit middle c l) in
+    let middle = suc (placeAfter (suc at) b) in
+    let l = emit (placeAfter middle c) rest ws in
+    let i = emit-length b (suc at) (word 7 0 0 (placeAfter middle c) 0 ∷ emit middle c l) in
     let j = emit-length c middle l in
-    let k = emit-length rest (behind middle c) ws in
+    let k = emit-length rest (placeAfter middle c) ws in
     omega arith
 
 -- the scan of a body's records counts its words
 pub count-flat : (b : Body) (blocks : List ℕ) (at : ℕ) (tl : List Record)
-    → wordCount blocks (flat b tl) + at ≡ behind at b + wordCount blocks tl
+    → wordCount blocks (flat b tl) + at ≡ placeAfter at b + wordCount blocks tl
 count-flat done blocks at tl = omega arith
 count-flat (write p w v rest) blocks at tl = let i = count-flat rest blocks (suc at) tl in omega arith
 count-flat (read p w rest) blocks at tl = let i = count-flat rest blocks (suc at) tl in omega arith
 count-flat (delay n rest) blocks at tl = let i = count-flat rest blocks (suc at) tl in omega arith
 count-flat (repeat n b rest) blocks at tl =
     let i = count-flat b (4 ∷ blocks) (suc at) (endRecord ∷ flat rest tl) in
-    let j = count-flat rest blocks (suc (behind (suc at) b)) tl in
+    let j = count-flat rest blocks (suc (placeAfter (suc at) b)) tl in
     omega arith
 count-flat (if p w m b rest) blocks at tl =
     let i = count-flat b (5 ∷ blocks) (suc at) (endRecord ∷ flat rest tl) in
-    let j = count-flat rest blocks (behind (suc at) b) tl in
+    let j = count-flat rest blocks (placeAfter (suc at) b) tl in
     omega arith
 count-flat (ifElse p w m b c rest) blocks at tl =
-    let middle = suc (behind (suc at) b) in
+    let middle = suc (placeAfter (suc at) b) in
     let i = count-flat b (5 ∷ blocks) (suc at) (elseRecord ∷ flat c (endRecord ∷ flat rest tl)) in
     let j = count-flat c (6 ∷ blocks) middle (endRecord ∷ flat rest tl) in
-    let k = count-flat rest blocks (behind middle c) tl in
+    let k = count-flat rest blocks (placeAfter middle c) tl in
     omega arith
 
 -- an accepted list gives a word for each place of its body, and the halt
 pub count-records : (rs : List Record) → firstFault [] 0 rs .number ≡ 0
-    → wordCount [] rs ≡ suc (behind 0 (bodyIn (readingOf rs)))
+    → wordCount [] rs ≡ suc (placeAfter 0 (bodyIn (readingOf rs)))
 count-records rs h =
     let b = bodyIn (readingOf rs) in
-    let i : wordCount [] (flat b []) ≡ suc (behind 0 b) = let c = count-flat b [] 0 [] in omega arith in
+    let i : wordCount [] (flat b []) ≡ suc (placeAfter 0 b) = let c = count-flat b [] 0 [] in omega arith in
     ap (λ (l : List Record). wordCount [] l) (reading-flat rs h) ∙ i
 
 -- the words that the scan of an accepted script counts are its words

@@ -29,7 +29,7 @@ use Rattle.script.proofs.Flat.{
   withElse,
   writes,
 }
-use Rattle.compiler.specs.Emit.{ahead, Aimed, framesAfter, placeAfter, targetFor}
+use Rattle.compiler.specs.Emit.{lookAhead, TargetsFrom, framesAfter, placeAfterRecord, targetFor}
 use Rattle.compiler.proofs.Ahead.{ahead-word}
 
 -- ---- an accepted list, one record on
@@ -125,8 +125,8 @@ pub record Aiming (all rs : List Record) (table frames waiting : List ℕ) (plac
   pub fresh : (j : ℕ) → k ≤ j → getD table j 0 ≡ 0
   -- a table that has the entries below k, once settled, and the targets from k on, has all targets
   pub aims : (targets : List ℕ)
-      → ((j : ℕ) → j < k → getD targets j 0 ≡ settled (λ inner. ahead inner place rs) frames waiting j (getD table j 0))
-      → Aimed targets k frames place rs → Aimed targets 0 [] 0 all
+      → ((j : ℕ) → j < k → getD targets j 0 ≡ settled (λ inner. lookAhead inner place rs) frames waiting j (getD table j 0))
+      → TargetsFrom targets k frames place rs → TargetsFrom targets 0 [] 0 all
 
 module _ {all rs : List Record} {r : Record} {table frames waiting : List ℕ} {place k : ℕ}
     (g : Aiming all (r ∷ rs) table frames waiting place k) where
@@ -135,14 +135,14 @@ module _ {all rs : List Record} {r : Record} {table frames waiting : List ℕ} {
 
   -- the entries below k settle as they did, and that of k at its target
   onward : (table₁ frames₁ waiting₁ : List ℕ) (place₁ : ℕ)
-      → framesAfter frames place (r .kind) ≡ frames₁ → placeAfter (innermost frames) place (r .kind) ≡ place₁
+      → framesAfter frames place (r .kind) ≡ frames₁ → placeAfterRecord (innermost frames) place (r .kind) ≡ place₁
       → Waits (openAfter (numbers (g .blocks)) (r .kind)) frames₁ waiting₁ (k + 1)
       → ((j : ℕ) → k < j → getD table₁ j 0 ≡ 0)
       → ((j : ℕ) → j < k
-      → settled (λ inner. ahead inner place₁ rs) frames₁ waiting₁ j (getD table₁ j 0)
-      ≡ settled (λ inner. ahead inner place (r ∷ rs)) frames waiting j (getD table j 0))
-      → settled (λ inner. ahead inner place₁ rs) frames₁ waiting₁ k (getD table₁ k 0)
-      ≡ targetFor (innermost frames) (ahead [] (suc place) rs) (r .kind)
+      → settled (λ inner. lookAhead inner place₁ rs) frames₁ waiting₁ j (getD table₁ j 0)
+      ≡ settled (λ inner. lookAhead inner place (r ∷ rs)) frames waiting j (getD table j 0))
+      → settled (λ inner. lookAhead inner place₁ rs) frames₁ waiting₁ k (getD table₁ k 0)
+      ≡ targetFor (innermost frames) (lookAhead [] (suc place) rs) (r .kind)
       → Aiming all rs table₁ frames₁ waiting₁ place₁ (k + 1)
   onward table₁ frames₁ waiting₁ place₁ f p w z below here = record {
     blocks = after .blocks;
@@ -173,9 +173,9 @@ module _ {all rs : List Record} {r : Record} {table frames waiting : List ℕ} {
         onward table frames waiting (place + 1) (simp (n4, n5, n7)) (simp (n7, add-one))
         (simp (n4, n5, n6, n7) (longer (k + 1) (omega arith) (g .waits)))
         (λ j m. g .fresh j (omega arith))
-        (λ j m. agrees (λ inner. ahead inner (place + 1) rs) (λ inner. ahead inner place (r ∷ rs))
+        (λ j m. agrees (λ inner. lookAhead inner (place + 1) rs) (λ inner. lookAhead inner place (r ∷ rs))
         (λ inner. simp (ahead-word inner place r rs n6 n7, n4, n5, n7, add-one)) frames waiting j (getD table j 0))
-        (keeps (λ inner. ahead inner (place + 1) rs) k (getD table k 0) (omega arith) (g .waits)
+        (keeps (λ inner. lookAhead inner (place + 1) rs) k (getD table k 0) (omega arith) (g .waits)
         ∙ g .fresh k (omega arith)
         ∙ (simp (n4, n5, n6, n7)))
 
@@ -190,9 +190,9 @@ module _ {all rs : List Record} {r : Record} {table frames waiting : List ℕ} {
         (rw o (more {w = k} {k = k + 1} (omega arith) e (g .waits)))
         (λ j m. g .fresh j (omega arith))
         (λ j m. rw (ne-eqb j k (λ q. omega arith))
-        (agrees (λ inner. ahead (start ∷ inner) (place + 1) rs) (λ inner. ahead inner place (r ∷ rs))
+        (agrees (λ inner. lookAhead (start ∷ inner) (place + 1) rs) (λ inner. lookAhead inner place (r ∷ rs))
         (λ inner. simp (ahead-word inner place r rs n6 n7, framed inner, add-one)) frames waiting j (getD table j 0)))
-        (rw (eq-eqb k k refl, add-one place) (aimed (ahead [] (suc place) rs)))
+        (rw (eq-eqb k k refl, add-one place) (aimed (lookAhead [] (suc place) rs)))
 
   pub repeats-open : r .kind ≡ 4 → Aiming all rs table ((place + 1) ∷ frames) (k ∷ waiting) (place + 1) (k + 1)
   repeats-open e =
@@ -212,28 +212,28 @@ module _ {all rs : List Record} {r : Record} {table fs ws : List ℕ} {f w place
   elses-wait e =
       let l = first-waits (g .waits) in
       let f-is : f ≡ 0 = if-frame (g .waits) (next (g .accepted) .in-if (rw e)) in
-      let lead : List ℕ → ℕ = λ inner. ahead (f ∷ inner) (place + 1) rs in
+      let lead : List ℕ → ℕ = λ inner. lookAhead (f ∷ inner) (place + 1) rs in
       onward g (set table w (place + 1)) (f ∷ fs) (k ∷ ws) (place + 1) (rw e)
       (rw (e, add-one place)) (rw e (more {w = k} {k = k + 1} (omega arith) (λ q. f-is) (longer k (omega arith) (others-wait (g .waits)))))
       (λ j m. getD-set-other table w j (place + 1) 0 (λ q. omega arith) ∙ g .fresh j (omega arith))
       (λ j m. rw (ne-eqb j k (λ q. omega arith))
-      (written f (λ inner. ahead inner place (r ∷ rs)) lead table (place + 1) (omega arith) (others-wait (g .waits))
+      (written f (λ inner. lookAhead inner place (r ∷ rs)) lead table (place + 1) (omega arith) (others-wait (g .waits))
       (rw (e, f-is, add-one place)) (λ inner. rw (e, add-one place)) j))
       (rw (eq-eqb k k refl, f-is, e, add-one place))
 
   -- an enter aims behind its loop end, which aims at its body; a test without an else, or an else, aims at its end
-  pub ends-close : (place₁ : ℕ) → r .kind ≡ 7 → place₁ ≡ placeAfter f place 7
+  pub ends-close : (place₁ : ℕ) → r .kind ≡ 7 → place₁ ≡ placeAfterRecord f place 7
       → Aiming all rs (set (set table k f) w place₁) fs ws place₁ (k + 1)
   ends-close place₁ e p =
       let l = first-waits (g .waits) in
       let other = others-wait (g .waits) in
-      let lead : List ℕ → ℕ = λ inner. ahead inner place₁ rs in
+      let lead : List ℕ → ℕ = λ inner. lookAhead inner place₁ rs in
       onward g (set (set table k f) w place₁) fs ws place₁ (rw e) (rw (e, p))
       (rw e (longer (k + 1) (omega arith) other))
       (λ j m. getD-set-other (set table k f) w j place₁ 0 (λ q. omega arith)
       ∙ getD-set-other table k j f 0 (λ q. omega arith)
       ∙ g .fresh j (omega arith))
-      (λ j m. written f (λ inner. ahead inner place (r ∷ rs)) lead (set table k f) place₁ (simp length-set (omega arith)) other
+      (λ j m. written f (λ inner. lookAhead inner place (r ∷ rs)) lead (set table k f) place₁ (simp length-set (omega arith)) other
       (rw (e, p) (aim-end f place)) (λ inner. rw (e, p)) j
       ∙ (rw (getD-set-other table k j f 0 (λ q. omega arith))))
       (keeps lead k (getD (set (set table k f) w place₁) k 0) (omega arith) other
@@ -241,7 +241,7 @@ module _ {all rs : List Record} {r : Record} {table fs ws : List ℕ} {f w place
       ∙ getD-set-same table k f 0 sized
       ∙ (rw e))
     where
-      aim-end : (f place : ℕ) → placeAfter f place 7 ≡ aim f place
+      aim-end : (f place : ℕ) → placeAfterRecord f place 7 ≡ aim f place
       aim-end f place = pick (eqb f 0)
         where
           pick : (b : Bool) → cond (not b) (suc place) place ≡ cond b place (suc place)
@@ -250,7 +250,7 @@ module _ {all rs : List Record} {r : Record} {table fs ws : List ℕ} {f w place
 
 -- ---- behind the last record no block is open, and the table has all targets
 pub completes : {all : List Record} {table frames waiting : List ℕ} {place k : ℕ} → Aiming all [] table frames waiting place k
-    → Aimed table 0 [] 0 all
+    → TargetsFrom table 0 [] 0 all
 completes {table = table} g = g .aims table (λ j l. settles _ (g .accepted) (g .waits) j) tt
   where
     settles : {blocks : List Block} {frames waiting : List ℕ} {k : ℕ} (lead : List ℕ → ℕ) → Accepted blocks []

@@ -6,9 +6,12 @@ use lib.Dec.{eqb, ltb}
 use lib.ListN.{drop, length}
 use Rattle.record.specs.Record.{recordSize}
 use Rattle.script.specs.Records.{recordCount}
-use Rattle.script.specs.Refusals.{Refusal, refusal, scriptRefusal, wordsIn}
+use Rattle.script.specs.Refusals.{scriptRefusal, wordsIn}
+use Rattle.outcome.specs.Number as number
+use Rattle.outcome.specs.Refusal.{refusal}
+use Rattle.outcome.specs.declared.Refusal.{Refusal}
 use Rattle.compiler.specs.Words.{imageBytes, wordsOf}
-use Rattle.compiler.specs.declared.Compiled.{Compiled}
+use Rattle.compiler.specs.declared.CompileResult.{CompileResult}
 
 -- 9: "image buffer too short (record count)"
 abbrev pub tooShort : List ℕ → List ℕ → Bool
@@ -18,12 +21,12 @@ tooShort script image = ltb (length image) (recordSize * wordsIn script)
 unfoldable pub compileRefusal : List ℕ → List ℕ → Refusal
 compileRefusal script image =
     cond (eqb (scriptRefusal script .number) 0)
-    (cond (tooShort script image) (refusal 9 (recordCount script)) (refusal 0 0))
+    (cond (tooShort script image) (refusal number.bufferTooShort (recordCount script)) (refusal 0 0))
     (scriptRefusal script)
 
 -- "else the word count"; a refusal's other numbers are 0
-unfoldable pub compiled : List ℕ → List ℕ → Compiled
-compiled script image = record {
+unfoldable pub compileResult : List ℕ → List ℕ → CompileResult
+compileResult script image = record {
   refusal = compileRefusal script image .number;
   place = compileRefusal script image .place;
   words = cond (eqb (compileRefusal script image .number) 0) (wordsIn script) 0;

@@ -17,20 +17,20 @@ framesAfter frames place kind =
     cond (eqb kind 4) (suc place ∷ frames)
     (cond (eqb kind 5) (0 ∷ frames) (cond (eqb kind 7) (outer frames) frames))
 
-abbrev pub gives : ℕ → ℕ → Bool
-gives frame kind = not (eqb kind 7 && eqb frame 0)
+abbrev pub emitsWord : ℕ → ℕ → Bool
+emitsWord frame kind = not (eqb kind 7 && eqb frame 0)
 
-abbrev pub placeAfter : ℕ → ℕ → ℕ → ℕ
-placeAfter frame place kind = cond (gives frame kind) (suc place) place
+abbrev pub placeAfterRecord : ℕ → ℕ → ℕ → ℕ
+placeAfterRecord frame place kind = cond (emitsWord frame kind) (suc place) place
 
 -- ---- where a block leads: to its end, or behind the jump of its else; the frames are those of the blocks opened in it
-abbrev pub ahead : List ℕ → ℕ → List Record → ℕ
-ahead frames place [] = place
-ahead [] place (r ∷ rs) =
+abbrev pub lookAhead : List ℕ → ℕ → List Record → ℕ
+lookAhead frames place [] = place
+lookAhead [] place (r ∷ rs) =
     cond (eqb (r .kind) 7) place
-    (cond (eqb (r .kind) 6) (suc place) (ahead (framesAfter [] place (r .kind)) (suc place) rs))
-ahead (f ∷ fs) place (r ∷ rs) =
-    ahead (framesAfter (f ∷ fs) place (r .kind)) (placeAfter f place (r .kind)) rs
+    (cond (eqb (r .kind) 6) (suc place) (lookAhead (framesAfter [] place (r .kind)) (suc place) rs))
+lookAhead (f ∷ fs) place (r ∷ rs) =
+    lookAhead (framesAfter (f ∷ fs) place (r .kind)) (placeAfterRecord f place (r .kind)) rs
 
 -- ---- the word of a record, given its innermost frame and where the look-ahead leads
 -- a word's kind: a test is 6, the jump of an else 7, a loop end 5
@@ -50,14 +50,14 @@ wordFor frame lead r =
 abbrev pub emitFlat : List ℕ → ℕ → List Record → List Record
 emitFlat frames place [] = halt ∷ []
 emitFlat frames place (r ∷ rs) =
-    cond (gives (innermost frames) (r .kind))
-    (wordFor (innermost frames) (ahead [] (suc place) rs) r
+    cond (emitsWord (innermost frames) (r .kind))
+    (wordFor (innermost frames) (lookAhead [] (suc place) rs) r
     ∷ emitFlat (framesAfter frames place (r .kind)) (suc place) rs)
     (emitFlat (framesAfter frames place (r .kind)) place rs)
 
 -- ---- a table that has the target of each record, from record k on
-abbrev pub Aimed : List ℕ → ℕ → List ℕ → ℕ → List Record → Type 0
-Aimed targets k frames place [] = Unit {0}
-Aimed targets k frames place (r ∷ rs) =
-    (getD targets k 0 ≡ targetFor (innermost frames) (ahead [] (suc place) rs) (r .kind))
-    × Aimed targets (suc k) (framesAfter frames place (r .kind)) (placeAfter (innermost frames) place (r .kind)) rs
+abbrev pub TargetsFrom : List ℕ → ℕ → List ℕ → ℕ → List Record → Type 0
+TargetsFrom targets k frames place [] = Unit {0}
+TargetsFrom targets k frames place (r ∷ rs) =
+    (getD targets k 0 ≡ targetFor (innermost frames) (lookAhead [] (suc place) rs) (r .kind))
+    × TargetsFrom targets (suc k) (framesAfter frames place (r .kind)) (placeAfterRecord (innermost frames) place (r .kind)) rs

@@ -11,14 +11,14 @@ word k w p t v = record { mark = 0x3CC3; kind = k; width = w; port = p; target =
 
 -- the place behind the words of a body that starts at a place: "Records give one word in order, except that the end of an
 -- if gives none"
-abbrev pub behind : ℕ → Body → ℕ
-behind at done = at
-behind at (write p w v rest) = behind (suc at) rest
-behind at (read p w rest) = behind (suc at) rest
-behind at (delay n rest) = behind (suc at) rest
-behind at (repeat n b rest) = behind (suc (behind (suc at) b)) rest
-behind at (if p w m b rest) = behind (behind (suc at) b) rest
-behind at (ifElse p w m b c rest) = behind (behind (suc (behind (suc at) b)) c) rest
+abbrev pub placeAfter : ℕ → Body → ℕ
+placeAfter at done = at
+placeAfter at (write p w v rest) = placeAfter (suc at) rest
+placeAfter at (read p w rest) = placeAfter (suc at) rest
+placeAfter at (delay n rest) = placeAfter (suc at) rest
+placeAfter at (repeat n b rest) = placeAfter (suc (placeAfter (suc at) b)) rest
+placeAfter at (if p w m b rest) = placeAfter (placeAfter (suc at) b) rest
+placeAfter at (ifElse p w m b c rest) = placeAfter (placeAfter (suc (placeAfter (suc at) b)) c) rest
 
 -- the words of a body that starts at a place, and then ws. "Enter aims behind its loop end, loop end at its body, test
 -- behind its else's jump or at its end, else at its end."
@@ -28,15 +28,15 @@ emit at (write p w v rest) ws = word 1 w p 0 v ∷ emit (suc at) rest ws
 emit at (read p w rest) ws = word 2 w p 0 0 ∷ emit (suc at) rest ws
 emit at (delay n rest) ws = word 3 0 0 0 n ∷ emit (suc at) rest ws
 emit at (repeat n b rest) ws =
-    word 4 0 0 (suc (behind (suc at) b)) n
-    ∷ emit (suc at) b (word 5 0 0 (suc at) 0 ∷ emit (suc (behind (suc at) b)) rest ws)
+    word 4 0 0 (suc (placeAfter (suc at) b)) n
+    ∷ emit (suc at) b (word 5 0 0 (suc at) 0 ∷ emit (suc (placeAfter (suc at) b)) rest ws)
 emit at (if p w m b rest) ws =
-    word 6 w p (behind (suc at) b) m ∷ emit (suc at) b (emit (behind (suc at) b) rest ws)
+    word 6 w p (placeAfter (suc at) b) m ∷ emit (suc at) b (emit (placeAfter (suc at) b) rest ws)
 emit at (ifElse p w m b c rest) ws =
-    word 6 w p (suc (behind (suc at) b)) m
+    word 6 w p (suc (placeAfter (suc at) b)) m
     ∷ emit (suc at) b
-    (word 7 0 0 (behind (suc (behind (suc at) b)) c) 0
-    ∷ emit (suc (behind (suc at) b)) c (emit (behind (suc (behind (suc at) b)) c) rest ws))
+    (word 7 0 0 (placeAfter (suc (placeAfter (suc at) b)) c) 0
+    ∷ emit (suc (placeAfter (suc at) b)) c (emit (placeAfter (suc (placeAfter (suc at) b)) c) rest ws))
 
 -- "a halt follows"
 abbrev pub halt : Record

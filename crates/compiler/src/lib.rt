@@ -6,15 +6,15 @@ ghost use mathlib.Core.List.{[], _++_};
 ghost use Prim.Native.Nat.{_+_, _*_, _≤_, _/_};
 ghost use lib.Dec.{eqb, ltb};
 ghost use lib.ListN.{length, take, drop, replicate};
-ghost use Rattle.record.specs.Record.{bytesOf, recordSize};
+ghost use Rattle.record.specs.Record.{bytesOf, mostRecords, recordSize};
 ghost use Rattle.script.specs.Records.{recordsOf};
 ghost use Rattle.script.specs.Refusals.{scriptRefusal};
-ghost use Rattle.compiler.specs.Compile.{compiled, imageAfter};
-ghost use Rattle.compiler.specs.Emit.{Aimed, gives, placeAfter, wordKind};
+ghost use Rattle.compiler.specs.Compile.{compileResult, imageAfter};
+ghost use Rattle.compiler.specs.Emit.{TargetsFrom, emitsWord, placeAfterRecord, wordKind};
 ghost use Rattle.compiler.specs.Words.{word, imageBytes, wordsOf};
 
 // Number 0 and the words written, or a refusal with its place.
-pub struct Compiled {
+pub struct CompileResult {
     pub refusal: u32,
     pub place: u32,
     pub words: u32,
@@ -42,9 +42,9 @@ fn start_of(kind: u32, body: u32) -> u32
 }
 
 // The place behind a block whose end stands at `place`: the end of an if gives no word.
-fn behind_end(start: u32, place: u32) -> u32
-    requires { ⌜ place ≤ 1024 ⌝ }
-    ensures { λ r. ⌜ r ≡ placeAfter start place 7 ⌝ }
+fn place_after_end(start: u32, place: u32) -> u32
+    requires { ⌜ place ≤ mostRecords ⌝ }
+    ensures { λ r. ⌜ r ≡ placeAfterRecord start place 7 ⌝ }
 {
     if start == 0 {
         return place;
@@ -54,44 +54,44 @@ fn behind_end(start: u32, place: u32) -> u32
 
 // The target of each word, at its record's number: a loop end aims at its body; an enter, a test or an else waits for its
 // block's end, or a test for its else, and aims behind it.
-fn fill_targets(script: &[u8], count: usize, targets: &mut [u32; 1024])
+fn fill_targets(script: &[u8], count: usize, targets: &mut [u32; Record::MOST])
     requires { ⌜ (count ≡ length (now script) / recordSize) × (scriptRefusal (now script) .number ≡ 0) ⌝ }
-    requires { ⌜ now targets ≡ replicate 1024 0 ⌝ }
-    ensures { λ _. ⌜ Aimed (now (targets .exit)) 0 [] 0 (recordsOf (now (script .entry))) ⌝ }
+    requires { ⌜ now targets ≡ replicate mostRecords 0 ⌝ }
+    ensures { λ _. ⌜ TargetsFrom (now (targets .exit)) 0 [] 0 (recordsOf (now (script .entry))) ⌝ }
 {
     // The open blocks: the record of each that waits, and what is kept of its start.
-    let mut waiting: [usize; 16] = [0; 16];
-    let mut starts: [u32; 16] = [0; 16];
+    let mut waiting: [usize; script::MOST_BLOCKS] = [0; script::MOST_BLOCKS];
+    let mut starts: [u32; script::MOST_BLOCKS] = [0; script::MOST_BLOCKS];
     let mut depth: usize = 0;
     let mut place: u32 = 0;
     let mut k: usize = 0;
     while k < count {
         // The kind of a record is all that the targets go by.
         let kind = record::kind_at(script, Record::SIZE * k);
-        let behind = place + 1;
+        let next_place = place + 1;
         let next = k + 1;
         if kind <= script::DELAY {
-            place = behind;
+            place = next_place;
         } else if kind <= script::IF {
             // A repeat or an if.
             waiting[depth] = k;
-            starts[depth] = start_of(kind, behind);
+            starts[depth] = start_of(kind, next_place);
             depth = depth + 1;
-            place = behind;
+            place = next_place;
         } else if kind == script::ELSE {
             // The jump waits in place of its test.
             let test = waiting[depth - 1];
-            targets[test] = behind;
+            targets[test] = next_place;
             waiting[depth - 1] = k;
-            place = behind;
+            place = next_place;
         } else {
             depth = depth - 1;
             let start = starts[depth];
             let opened = waiting[depth];
-            let behind_block = behind_end(start, place);
+            let after_block = place_after_end(start, place);
             targets[k] = start;
-            targets[opened] = behind_block;
-            place = behind_block;
+            targets[opened] = after_block;
+            place = after_block;
         }
         k = next;
     }
@@ -129,8 +129,8 @@ fn word_kind(kind: u32) -> u32
 }
 
 // The end of an if gives no word, and has no target.
-fn gives(target: u32, kind: u32) -> bool
-    ensures { λ r. ⌜ r ≡ gives target kind ⌝ }
+fn emits_word(target: u32, kind: u32) -> bool
+    ensures { λ r. ⌜ r ≡ emitsWord target kind ⌝ }
 {
     if kind == script::END {
         return target != 0;
@@ -142,7 +142,7 @@ fn gives(target: u32, kind: u32) -> bool
 
 // Writes a word into the part of the image that starts at the word's offset.
 fn put(image: &mut [u8], place: u32, w: Record)
-    requires { ⌜ (recordSize * place + recordSize ≤ length (now image)) × (place ≤ 1024) ⌝ }
+    requires { ⌜ (recordSize * place + recordSize ≤ length (now image)) × (place ≤ mostRecords) ⌝ }
     ensures { λ _. ⌜ now (image .exit) ≡ take (recordSize * place) (now (image .entry)) ++ (bytesOf w ++ drop recordSize (drop (recordSize * place) (now (image .entry)))) ⌝ }
 {
     let at = offset(place);
@@ -168,7 +168,7 @@ fn emit(script: &[u8], count: usize, image: &mut [u8])
     requires { ⌜ recordSize * length (wordsOf (now script)) ≤ length (now image) ⌝ }
     ensures { λ _. ⌜ now (image .exit) ≡ imageBytes (wordsOf (now (script .entry))) ++ drop (recordSize * length (wordsOf (now (script .entry)))) (now (image .entry)) ⌝ }
 {
-    let mut targets: [u32; 1024] = [0; 1024];
+    let mut targets: [u32; Record::MOST] = [0; Record::MOST];
     fill_targets(script, count, &mut targets);
     let mut place: u32 = 0;
     let mut k: usize = 0;
@@ -176,7 +176,7 @@ fn emit(script: &[u8], count: usize, image: &mut [u8])
         let r = record::read(script, Record::SIZE * k);
         let target = targets[k];
         let next = k + 1;
-        if gives(target, r.kind) {
+        if emits_word(target, r.kind) {
             let kind = word_kind(r.kind);
             // A field that the record does not use is 0, and so it is in the word.
             put(image, place, word(kind, r.width, r.port, target, r.value));
@@ -195,27 +195,27 @@ fn too_short(length: usize, words: u32) -> bool
 }
 
 // The compiler. No byte of the image is written before the script is accepted and its words fit.
-pub fn compile(script: &[u8], image: &mut [u8]) -> Compiled
-    ensures { λ r. ⌜ (r ≡ compiled (now (script .entry)) (now (image .entry))) × (now (image .exit) ≡ imageAfter (now (script .entry)) (now (image .entry))) ⌝ }
+pub fn compile(script: &[u8], image: &mut [u8]) -> CompileResult
+    ensures { λ r. ⌜ (r ≡ compileResult (now (script .entry)) (now (image .entry))) × (now (image .exit) ≡ imageAfter (now (script .entry)) (now (image .entry))) ⌝ }
 {
     let found = script::scan(script);
     let count = script.len() / Record::SIZE;
     if found.number != 0 {
-        return Compiled {
+        return CompileResult {
             refusal: found.number,
             place: found.place,
             words: 0,
         };
     }
     if too_short(image.len(), found.words) {
-        return Compiled {
-            refusal: 9,
+        return CompileResult {
+            refusal: outcome::BUFFER_TOO_SHORT,
             place: (count % 4096) as u32, // at most 1,024: the remainder only bounds it for the cast
             words: 0,
         };
     }
     emit(script, count, image);
-    Compiled {
+    CompileResult {
         refusal: 0,
         place: 0,
         words: found.words,

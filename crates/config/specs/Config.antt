@@ -19,6 +19,7 @@ use Rattle.config.specs.Fields.{
   withRuntimeBase,
   withUnlocked,
 }
+use Rattle.config.specs.Index as register
 use Rattle.config.specs.declared.Config.{Config}
 
 -- "Reset 0: configuration locked, its index, device number, bases and activate 0, key control 04h."
@@ -52,16 +53,19 @@ indexWrite g v =
 unfoldable pub indexRead : Config → Answer
 indexRead g = cond (g .unlocked) (done (g .index)) (statusOnly 1)
 
+abbrev pub runtimeDevice : ℕ
+runtimeDevice = 0x0A
+
 -- ---- the registers of device 0Ah. "With device number 0Ah: 30h activate (mask 01h); 60h/61h runtime base high/low; 62h/63h
 -- key base high/low; F2h key control (mask 07h). The rest is status 4."
 unfoldable pub registerRead : Config → Answer
 registerRead g =
-    cond (eqb (g .index) 0x30) (done (g .activate))
-    (cond (eqb (g .index) 0x60) (done (high (g .«runtime_base»)))
-    (cond (eqb (g .index) 0x61) (done (low (g .«runtime_base»)))
-    (cond (eqb (g .index) 0x62) (done (high (g .«key_base»)))
-    (cond (eqb (g .index) 0x63) (done (low (g .«key_base»)))
-    (cond (eqb (g .index) 0xF2) (done (g .control)) (statusOnly 4))))))
+    cond (eqb (g .index) register.activate) (done (g .activate))
+    (cond (eqb (g .index) register.runtimeBaseHigh) (done (high (g .«runtime_base»)))
+    (cond (eqb (g .index) register.runtimeBaseLow) (done (low (g .«runtime_base»)))
+    (cond (eqb (g .index) register.keyBaseHigh) (done (high (g .«key_base»)))
+    (cond (eqb (g .index) register.keyBaseLow) (done (low (g .«key_base»)))
+    (cond (eqb (g .index) register.keyControl) (done (g .control)) (statusOnly 4))))))
 
 -- "While bit 0 is set every write to F2h has status 2. A write that sets bit 0 stores bits 2 and 1 as well."
 unfoldable pub controlWrite : Config → ℕ → Result Config
@@ -69,26 +73,26 @@ controlWrite g v = cond (hasBit 0x01 (g .control)) (status 2 g) (status 0 (withC
 
 unfoldable pub registerWrite : Config → ℕ → Result Config
 registerWrite g v =
-    cond (eqb (g .index) 0x30) (status 0 (withActivate g (bitAnd v 0x01)))
-    (cond (eqb (g .index) 0x60) (status 0 (withRuntimeBase g (withHigh (g .«runtime_base») v)))
-    (cond (eqb (g .index) 0x61) (status 0 (withRuntimeBase g (withLow (g .«runtime_base») v)))
-    (cond (eqb (g .index) 0x62) (status 0 (withKeyBase g (withHigh (g .«key_base») v)))
-    (cond (eqb (g .index) 0x63) (status 0 (withKeyBase g (withLow (g .«key_base») v)))
-    (cond (eqb (g .index) 0xF2) (controlWrite g v) (status 4 g))))))
+    cond (eqb (g .index) register.activate) (status 0 (withActivate g (bitAnd v 0x01)))
+    (cond (eqb (g .index) register.runtimeBaseHigh) (status 0 (withRuntimeBase g (withHigh (g .«runtime_base») v)))
+    (cond (eqb (g .index) register.runtimeBaseLow) (status 0 (withRuntimeBase g (withLow (g .«runtime_base») v)))
+    (cond (eqb (g .index) register.keyBaseHigh) (status 0 (withKeyBase g (withHigh (g .«key_base») v)))
+    (cond (eqb (g .index) register.keyBaseLow) (status 0 (withKeyBase g (withLow (g .«key_base») v)))
+    (cond (eqb (g .index) register.keyControl) (controlWrite g v) (status 4 g))))))
 
 -- ---- the data port. "Data registers: 07h device number (one byte, any value). With device number 0Ah: [..]"
 unfoldable pub dataRead : Config → Answer
 dataRead g =
     cond (g .unlocked)
-    (cond (eqb (g .index) 0x07) (done (g .number))
-    (cond (eqb (g .number) 0x0A) (registerRead g) (statusOnly 4)))
+    (cond (eqb (g .index) register.deviceNumber) (done (g .number))
+    (cond (eqb (g .number) runtimeDevice) (registerRead g) (statusOnly 4)))
     (statusOnly 1)
 
 unfoldable pub dataWrite : Config → ℕ → Result Config
 dataWrite g v =
     cond (g .unlocked)
-    (cond (eqb (g .index) 0x07) (status 0 (withNumber g v))
-    (cond (eqb (g .number) 0x0A) (registerWrite g v) (status 4 g)))
+    (cond (eqb (g .index) register.deviceNumber) (status 0 (withNumber g v))
+    (cond (eqb (g .number) runtimeDevice) (registerWrite g v) (status 4 g)))
     (status 1 g)
 
 -- offset 0 is the index port, any other the data port

@@ -1,4 +1,5 @@
 pub mod Base
 pub mod Fields
+pub mod Index
 pub mod Config
 pub mod Saved

@@ -126,7 +126,7 @@ impl Config {
     fn control_write(mut self, value: u8) -> AccessResult
         ensures { λ r. ⌜ result (r .answer) (r .block) ≡ controlWrite self value ⌝ }
     {
-        if mask::has(self.control, Config::CONTROL_LOCK) {
+        if mask::has8(self.control, Config::CONTROL_LOCK) {
             return self.status(Answer::BLOCKED);
         }
         self.control = value & Config::CONTROL_MASK;

@@ -35,10 +35,10 @@ use Rattle.script.specs.Nested.{scriptBody}
 use Rattle.script.specs.Records.{recordsOf}
 use Rattle.script.specs.Refusals.{recordFault, scriptRefusal}
 use Rattle.semantics.specs.OwnRun.{scriptRun}
-use Rattle.semantics.specs.World.{readLogged, sharesOne, tested, valueRead, written}
+use Rattle.semantics.specs.World.{afterRead, sharesOne, afterTest, valueRead, afterWrite}
 use Rattle.sequencer.specs.Run.{imageRun}
-use Rattle.machine.specs.Step.{did, stepOf, wordFault}
-use Rattle.machine.specs.Word.{badWord}
+use Rattle.step.specs.Step.{execute, nextStep, wordFault}
+use Rattle.step.specs.Word.{badWord}
 use Rattle.lists.specs.Tests.{allHold}
 use Rattle.correct.specs.Cases.{cases, p1, p2, p3, p4, p5, p6, p7, p8, p9, p10, p11}
 
@@ -50,5 +50,5 @@ unfolding p1 p2 p3 p4 p5 p6 p7 p8 p9 p10 p11
     acpiAccess acpiEvent acpiReset acpiSettle takes acpiRead registerValue acpiWrite acpiControl setupIndexWrite
     ticked wake pending sciOn smiOn
     bytesOf recordAt recordsOf scriptRefusal recordFault scriptBody wordsOf
-    scriptRun written readLogged tested sharesOne valueRead imageRun stepOf did wordFault badWord
+    scriptRun afterWrite afterRead afterTest sharesOne valueRead imageRun nextStep execute wordFault badWord
 cases-hold = refl

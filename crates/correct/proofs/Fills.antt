@@ -5,7 +5,7 @@ use mathlib.Core.List.{List, [], _∷_, _++_}
 use native.Mathlib.Decide.{decLe}
 use native.Mathlib.Omega.{arith}
 use lib.ListN.{drop, drop-of-length-le, length, length-drop, take}
-use Rattle.machine.specs.Step.{filled}
+use Rattle.step.specs.Step.{logFilled}
 
 take-front : (vs ys : List ℕ) → take (length vs) (vs ++ ys) ≡ vs
 take-front [] ys = refl
@@ -15,10 +15,10 @@ drop-front : (vs ys : List ℕ) → drop (length vs) (vs ++ ys) ≡ ys
 drop-front [] ys = refl
 drop-front (v ∷ vs) ys = drop-front vs ys
 
-pub front : (values lent : List ℕ) → take (length values) (filled values lent) ≡ values
+pub front : (values lent : List ℕ) → take (length values) (logFilled values lent) ≡ values
 front values lent = take-front values (drop (length values) lent)
 
-pub rest : (values lent : List ℕ) → drop (length values) (filled values lent) ≡ drop (length values) lent
+pub rest : (values lent : List ℕ) → drop (length values) (logFilled values lent) ≡ drop (length values) lent
 rest values lent = drop-front values (drop (length values) lent)
 
 -- the number of events taken leads to the events left

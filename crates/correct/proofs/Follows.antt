@@ -3,13 +3,13 @@ use Prim.Native.Nat.{ℕ, zero, suc, _+_, _-_, _≤_}
 use mathlib.Core.Path.{_≡_, ap, _∙_}
 use mathlib.Core.List.{List}
 use native.Mathlib.Omega.{arith}
-use Rattle.sequencer.specs.Run.{ended, follow, ran}
-use Rattle.machine.specs.Step.{Machine, goesOn, halts, stepOf}
+use Rattle.sequencer.specs.Run.{runEnd, follow, runFrom}
+use Rattle.step.specs.Step.{Machine, goesOn, halts, nextStep}
 
 -- from a machine, with so many steps made, to a machine, with so many; the counts are the run's own, so nothing is added up
 pub data Reach (image : List ℕ) (room : ℕ) : ℕ → Machine → ℕ → Machine → Type 0 where
   here : {s : ℕ} {m : Machine} → Reach image room s m s m
-  step : {s t : ℕ} {m n o : Machine} → stepOf image room m ≡ goesOn n → Reach image room (suc s) n t o
+  step : {s t : ℕ} {m n o : Machine} → nextStep image room m ≡ goesOn n → Reach image room (suc s) n t o
       → Reach image room s m t o
 
 module _ {image : List ℕ} {room : ℕ} where
@@ -24,16 +24,16 @@ module _ {image : List ℕ} {room : ℕ} where
 
   -- what is left of the budget goes down as the steps go up
   pub follows : {s t : ℕ} {m n : Machine} → Reach image room s m t n → (before after : ℕ) → before + s ≡ after + t
-      → ran image room before s m ≡ ran image room after t n
+      → runFrom image room before s m ≡ runFrom image room after t n
   follows {s} {m = m} here before after e =
-      let same : before ≡ after = omega arith in ap (λ (l : ℕ). ran image room l s m) same
+      let same : before ≡ after = omega arith in ap (λ (l : ℕ). runFrom image room l s m) same
   follows (step h p) zero after e = let i = steps-grow p in absurd (omega arith)
   follows (step h p) (suc before) after e = rw h (follows p before after (omega arith))
 
   -- a run that reaches a halt in its budget
-  pub halts-there : {s t : ℕ} {m n : Machine} → Reach image room s m t n → stepOf image room n ≡ halts → (budget : ℕ)
+  pub halts-there : {s t : ℕ} {m n : Machine} → Reach image room s m t n → nextStep image room n ≡ halts → (budget : ℕ)
       → suc t ≤ budget + s
-      → ran image room budget s m ≡ ended 0 (suc t) n
+      → runFrom image room budget s m ≡ runEnd 0 (suc t) n
   halts-there {s} {t} {n = n} p h budget l =
       follows p budget (suc (budget + s - suc t)) (omega arith)
-      ∙ ap (follow (ran image room (budget + s - suc t) (suc t)) t n) h
+      ∙ ap (follow (runFrom image room (budget + s - suc t) (suc t)) t n) h

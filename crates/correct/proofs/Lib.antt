@@ -5,7 +5,7 @@ pub mod Grows
 pub mod Ports
 pub mod Words
 pub mod Simulation
-pub mod Whole
+pub mod CompileAndRun
 pub mod Fills
-pub mod Demand3
+pub mod CompilerCorrect
 pub mod OneCall

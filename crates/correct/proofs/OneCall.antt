@@ -8,26 +8,28 @@ use borrow.Author.Tests.{eq-eqb, ne-eqb, leb-true}
 use lib.Dec.{eqb, leb}
 use lib.ListN.{length, take}
 use Rattle.compiler.proofs.Compiling.{accepts-all, refuses-not}
-use Rattle.compiler.specs.Compile.{compileRefusal, compiled, imageAfter}
+use Rattle.compiler.specs.Compile.{compileRefusal, compileResult, imageAfter}
 use Rattle.compiler.specs.Words.{imageBytes, wordsOf}
-use Rattle.compiler.specs.declared.Compiled.{Compiled}
+use Rattle.compiler.specs.declared.CompileResult.{CompileResult}
 use Rattle.device.specs.Device.{deviceInRange}
 use Rattle.device.specs.declared.Device.{Device}
 use Rattle.mask.proofs.Every.{and-left, and-right}
 use Rattle.script.proofs.Flat.{accepts}
-use Rattle.script.specs.Refusals.{Refusal, refusal, scriptRefusal, wordsIn}
+use Rattle.script.specs.Refusals.{scriptRefusal, wordsIn}
+use Rattle.outcome.specs.Refusal.{refusal}
+use Rattle.outcome.specs.declared.Refusal.{Refusal}
 use Rattle.semantics.specs.OwnRun.{Run, scriptRun}
-use Rattle.sequencer.specs.Run.{Ended, answerOf, badImage, eventsRefusal, imageRun, logAfter, runAnswer, runRefusal, runRefused}
-use Rattle.machine.specs.Step.{filled}
-use Rattle.machine.specs.Sequencer.{freshSequencer, sequencerInRange}
-use Rattle.sequencer.specs.declared.Ran.{Ran}
-use Rattle.correct.specs.Demand3.{Bytes, wordsWritten}
-use Rattle.correct.specs.Whole.{ownEnd, suffices, wholeAnswer, wholeEnd, wholeLog, wholeRefusal}
-use Rattle.correct.proofs.Whole.{fresh-in-range, good-image, whole-run, words-are, words-counted, words-many, written-are}
+use Rattle.sequencer.specs.Run.{RunEnd, runResult, badImage, eventsRefusal, imageRun, logAfter, runAnswer, runRefusal, refusedRun}
+use Rattle.step.specs.Step.{logFilled}
+use Rattle.step.specs.Sequencer.{freshSequencer, sequencerInRange}
+use Rattle.sequencer.specs.declared.RunResult.{RunResult}
+use Rattle.correct.specs.CompilerCorrect.{Bytes, wordsWritten}
+use Rattle.correct.specs.CompileAndRun.{ownEnd, suffices, wholeAnswer, wholeEnd, wholeLog, wholeRefusal}
+use Rattle.correct.proofs.CompileAndRun.{fresh-in-range, good-image, whole-run, words-are, words-counted, words-many, written-are}
 
 -- ---- a refusal of the compiler; 9 is none, since every script's words have room
 script-refused :
-    (script buffer : List ℕ) → 12288 ≤ length buffer → (compiled script buffer .refusal ≡ 0 → ⊥)
+    (script buffer : List ℕ) → 12288 ≤ length buffer → (compileResult script buffer .refusal ≡ 0 → ⊥)
     → scriptRefusal script .number ≡ 0 → ⊥
 script-refused script buffer l n z =
     n (accepts-all script buffer z (let w = accepts script z .few-words in omega (arith, w, l)))
@@ -43,20 +45,20 @@ unfolding compileRefusal
 compile-is-script script buffer n = rw (ne-eqb (scriptRefusal script .number) 0 n)
 
 pub compiler-refuses :
-    (script buffer : List ℕ) (d : Device) (events : List ℕ) (budget : ℕ) (log : List ℕ) (c : Compiled)
-    → 12288 ≤ length buffer → c ≡ compiled script buffer → (c .refusal ≡ 0 → ⊥)
-    → (runRefused (refusal (c .refusal) (c .place)) d freshSequencer ≡ wholeAnswer script d events budget log)
+    (script buffer : List ℕ) (d : Device) (events : List ℕ) (budget : ℕ) (log : List ℕ) (c : CompileResult)
+    → 12288 ≤ length buffer → c ≡ compileResult script buffer → (c .refusal ≡ 0 → ⊥)
+    → (refusedRun (refusal (c .refusal) (c .place)) d freshSequencer ≡ wholeAnswer script d events budget log)
     × (log ≡ wholeLog script d events budget log)
-unfolding wholeAnswer wholeLog compiled
+unfolding wholeAnswer wholeLog compileResult
 compiler-refuses script buffer d events budget log c l e n =
-    let z = script-refused script buffer l (λ q. n (ap (λ (x : Compiled). x .refusal) e ∙ q)) in
+    let z = script-refused script buffer l (λ q. n (ap (λ (x : CompileResult). x .refusal) e ∙ q)) in
     let w = whole-is-script script d events z in
     let k : eqb (wholeRefusal script d events .number) 0 ≡ false = rw w (ne-eqb (scriptRefusal script .number) 0 z) in
     (rw (e, k, w, compile-is-script script buffer z), rw k)
 
 -- ---- a script that is accepted
 same-refusal :
-    (script buffer : List ℕ) (d : Device) (events : List ℕ) → compiled script buffer .refusal ≡ 0
+    (script buffer : List ℕ) (d : Device) (events : List ℕ) → compileResult script buffer .refusal ≡ 0
     → runRefusal (wordsWritten script buffer) d freshSequencer events ≡ wholeRefusal script d events
 unfolding runRefusal wholeRefusal
 same-refusal script buffer d events accepted =
@@ -73,7 +75,7 @@ same-refusal script buffer d events accepted =
 
 same-end :
     (script buffer : List ℕ) (d : Device) (events : List ℕ) (budget : ℕ) (log : List ℕ) → Bytes script
-    → compiled script buffer .refusal ≡ 0
+    → compileResult script buffer .refusal ≡ 0
     → imageRun (wordsWritten script buffer) d freshSequencer events budget (length log)
     ≡ wholeEnd script d events budget (length log)
 unfolding wholeEnd
@@ -92,7 +94,7 @@ same-end script buffer d events budget log bytes accepted =
 
 pub words-run :
     (script buffer : List ℕ) (d : Device) (events : List ℕ) (budget : ℕ) (log : List ℕ) → Bytes script
-    → compiled script buffer .refusal ≡ 0
+    → compileResult script buffer .refusal ≡ 0
     → (runAnswer (wordsWritten script buffer) d freshSequencer events budget log ≡ wholeAnswer script d events budget log)
     × (logAfter (wordsWritten script buffer) d freshSequencer events budget log ≡ wholeLog script d events budget log)
 unfolding runAnswer logAfter wholeAnswer wholeLog
@@ -103,8 +105,8 @@ words-run script buffer d events budget log bytes accepted =
 
 -- its words have room in the buffer
 pub words-fit :
-    (script buffer : List ℕ) → compiled script buffer .refusal ≡ 0
-    → (12 * compiled script buffer .words ≤ length buffer) × (compiled script buffer .words ≤ 1024)
+    (script buffer : List ℕ) → compileResult script buffer .refusal ≡ 0
+    → (12 * compileResult script buffer .words ≤ length buffer) × (compileResult script buffer .words ≤ 1024)
 words-fit script buffer accepted =
     let r = refuses-not script buffer accepted in
     let w = words-counted script buffer accepted in

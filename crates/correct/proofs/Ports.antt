@@ -9,7 +9,7 @@ use Rattle.script.proofs.Flat.{reading-flat}
 use Rattle.script.specs.Nested.{Body, done, write, read, delay, repeat, if, ifElse, bodyIn, readingOf, elseRecord, endRecord, flat}
 use Rattle.script.specs.Records.{recordCount, recordsFrom, recordsOf}
 use Rattle.script.specs.Refusals.{firstFault}
-use Rattle.correct.specs.Demand3.{Bytes}
+use Rattle.correct.specs.CompilerCorrect.{Bytes}
 
 abbrev pub portsWithin : Body → Type 0
 portsWithin done = Unit {0}

@@ -9,14 +9,14 @@ use borrow.Author.Tests.{eqb-true, leb-true}
 use lib.Dec.{eqb}
 use lib.ListN.{length, length-append}
 use Rattle.compiler.proofs.Image.{image-length}
-use Rattle.compiler.proofs.Places.{behind-from}
-use Rattle.compiler.specs.Words.{behind, emit, halt, imageBytes, word}
+use Rattle.compiler.proofs.Places.{after-from}
+use Rattle.compiler.specs.Words.{placeAfter, emit, halt, imageBytes, word}
 use Rattle.record.proofs.ReadBack.{Fits, read-back, twelve-bytes}
 use Rattle.record.specs.Record.{bytesOf, recordAt}
 use Rattle.record.specs.declared.Record.{Record}
 use Rattle.script.proofs.Loops.{fieldsWithin}
 use Rattle.script.specs.Nested.{Body, done, write, read, delay, repeat, if, ifElse}
-use Rattle.machine.specs.Word.{imageWords, wordAt}
+use Rattle.step.specs.Word.{imageWords, wordAt}
 use Rattle.width.specs.Width.{allOnes, fitsWidth, isWidth}
 use Rattle.correct.proofs.Ports.{portsWithin}
 
@@ -26,23 +26,23 @@ At image place [] = Unit {0}
 At image place (w ∷ ws) = (wordAt image place ≡ w) × At image (suc place) ws
 
 -- what follows a body lies behind it
-pub lies-behind : (image : List ℕ) (b : Body) (at : ℕ) (ws : List Record) → At image at (emit at b ws) → At image (behind at b) ws
-lies-behind image done at ws h = h
-lies-behind image (write p w v rest) at ws h = lies-behind image rest (suc at) ws (h .1)
-lies-behind image (read p w rest) at ws h = lies-behind image rest (suc at) ws (h .1)
-lies-behind image (delay n rest) at ws h = lies-behind image rest (suc at) ws (h .1)
-lies-behind image (repeat n b rest) at ws h =
-    let past = suc (behind (suc at) b) in
-    let i = lies-behind image b (suc at) (word 5 0 0 (suc at) 0 ∷ emit past rest ws) (h .1) in
-    lies-behind image rest past ws (i .1)
-lies-behind image (if p w m b rest) at ws h =
-    let past = behind (suc at) b in
-    lies-behind image rest past ws (lies-behind image b (suc at) (emit past rest ws) (h .1))
-lies-behind image (ifElse p w m b c rest) at ws h =
-    let middle = suc (behind (suc at) b) in
-    let past = behind middle c in
-    let i = lies-behind image b (suc at) (word 7 0 0 past 0 ∷ emit middle c (emit past rest ws)) (h .1) in
-    lies-behind image rest past ws (lies-behind image c middle (emit past rest ws) (i .1))
+pub lies-after : (image : List ℕ) (b : Body) (at : ℕ) (ws : List Record) → At image at (emit at b ws) → At image (placeAfter at b) ws
+lies-after image done at ws h = h
+lies-after image (write p w v rest) at ws h = lies-after image rest (suc at) ws (h .1)
+lies-after image (read p w rest) at ws h = lies-after image rest (suc at) ws (h .1)
+lies-after image (delay n rest) at ws h = lies-after image rest (suc at) ws (h .1)
+lies-after image (repeat n b rest) at ws h =
+    let past = suc (placeAfter (suc at) b) in
+    let i = lies-after image b (suc at) (word 5 0 0 (suc at) 0 ∷ emit past rest ws) (h .1) in
+    lies-after image rest past ws (i .1)
+lies-after image (if p w m b rest) at ws h =
+    let past = placeAfter (suc at) b in
+    lies-after image rest past ws (lies-after image b (suc at) (emit past rest ws) (h .1))
+lies-after image (ifElse p w m b c rest) at ws h =
+    let middle = suc (placeAfter (suc at) b) in
+    let past = placeAfter middle c in
+    let i = lies-after image b (suc at) (word 7 0 0 past 0 ∷ emit middle c (emit past rest ws)) (h .1) in
+    lies-after image rest past ws (lies-after image c middle (emit past rest ws) (i .1))
 
 -- ---- the fields of every word fit their bytes
 abbrev AllFit : List Record → Type 0
@@ -74,7 +74,7 @@ fit k w p t v hk hw hp ht hv =
 bare : (k t v : ℕ) → k < 256 → t < 65536 → v ≤ 65535 → Fits (word k 0 0 t v)
 bare k t v hk ht hv = fit k 0 0 t v hk (omega arith) (omega arith) ht (omega arith)
 
-pub all-fit : (b : Body) (at : ℕ) (ws : List Record) → fieldsWithin b → portsWithin b → behind at b < 65536 → AllFit ws
+pub all-fit : (b : Body) (at : ℕ) (ws : List Record) → fieldsWithin b → portsWithin b → placeAfter at b < 65536 → AllFit ws
     → AllFit (emit at b ws)
 all-fit done at ws f p l h = h
 all-fit (write port w v rest) at ws f p l h = (
@@ -87,24 +87,24 @@ all-fit (read port w rest) at ws f p l h = (
 )
 all-fit (delay n rest) at ws f p l h = (bare 3 0 n (omega arith) (omega arith) (f .0), all-fit rest (suc at) ws (f .1) p l h)
 all-fit (repeat n b rest) at ws f p l h =
-    let past = suc (behind (suc at) b) in
-    let i = behind-from b (suc at) in
-    let j = behind-from rest past in (
+    let past = suc (placeAfter (suc at) b) in
+    let i = after-from b (suc at) in
+    let j = after-from rest past in (
       bare 4 past n (omega arith) (omega arith) (f .0),
       all-fit b (suc at) (word 5 0 0 (suc at) 0 ∷ emit past rest ws) (f .1) (p .0) (omega arith)
           (bare 5 (suc at) 0 (omega arith) (omega arith) (omega arith), all-fit rest past ws (f .2) (p .1) l h),
     )
 all-fit (if port w m b rest) at ws f p l h =
-    let past = behind (suc at) b in
-    let j = behind-from rest past in (
+    let past = placeAfter (suc at) b in
+    let j = after-from rest past in (
       fit 6 w port past m (omega arith) (width-fits w (f .0)) (p .0) (omega arith) (value-fits w m (f .1)),
       all-fit b (suc at) (emit past rest ws) (f .2) (p .1) (omega arith) (all-fit rest past ws (f .3) (p .2) l h),
     )
 all-fit (ifElse port w m b c rest) at ws f p l h =
-    let middle = suc (behind (suc at) b) in
-    let past = behind middle c in
-    let i = behind-from c middle in
-    let j = behind-from rest past in (
+    let middle = suc (placeAfter (suc at) b) in
+    let past = placeAfter middle c in
+    let i = after-from c middle in
+    let j = after-from rest past in (
       fit 6 w port middle m (omega arith) (width-fits w (f .0)) (p .0) (omega arith) (value-fits w m (f .1)),
       all-fit b (suc at) (word 7 0 0 past 0 ∷ emit middle c (emit past rest ws)) (f .2) (p .1) (omega arith) (
         bare 7 past 0 (omega arith) (omega arith) (omega arith),

@@ -34,7 +34,7 @@ use Rattle.record.specs.declared.Record.{Record}
 use Rattle.script.specs.Refusals.{scriptRefusal}
 use Rattle.semantics.specs.OwnRun.{scriptRun}
 use Rattle.sequencer.specs.Run.{imageRun}
-use Rattle.machine.specs.Sequencer.{freshSequencer}
+use Rattle.step.specs.Sequencer.{freshSequencer}
 
 -- ---- accesses, events, and what is looked at afterwards
 abbrev reading : Device → ℕ → ℕ → AccessResult

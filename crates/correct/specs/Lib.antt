@@ -1,3 +1,3 @@
 pub mod Cases
-pub mod Demand3
-pub mod Whole
+pub mod CompilerCorrect
+pub mod CompileAndRun

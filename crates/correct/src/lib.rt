@@ -1,14 +1,16 @@
 // A script compiled and run in one call. The rest of this crate is claims: document 01's cases and demand 3, in specs/ and
 // proofs/.
 use device::Device;
-use machine::Sequencer;
-use sequencer::Ran;
+use record::Record;
+use sequencer::RunResult;
+use step::Sequencer;
 ghost use mathlib.Core.Path.{_≡_};
 ghost use Prim.Native.Nat.{_*_, _≤_};
 ghost use lib.ListN.{length, take};
+ghost use Rattle.record.specs.Record.{mostRecords, recordSize};
 ghost use Rattle.sequencer.specs.Run.{runAnswer, logAfter};
-ghost use Rattle.machine.specs.Sequencer.{freshSequencer};
-ghost use Rattle.correct.specs.Whole.{wholeAnswer, wholeLog};
+ghost use Rattle.step.specs.Sequencer.{freshSequencer};
+ghost use Rattle.correct.specs.CompileAndRun.{wholeAnswer, wholeLog};
 
 fn index(words: u32) -> usize
     ensures { λ r. ⌜ r ≡ words ⌝ }
@@ -24,11 +26,11 @@ fn run_words(
     events: &[u32],
     budget: u32,
     log: &mut [u32],
-) -> Ran
-    requires { ⌜ (12 * words ≤ length (now image)) × (words ≤ 1024) ⌝ }
-    ensures { λ r. ⌜ (r ≡ runAnswer (take (12 * words) (now (image .entry))) device freshSequencer (now (events .entry)) budget (now (log .entry))) × (now (log .exit) ≡ logAfter (take (12 * words) (now (image .entry))) device freshSequencer (now (events .entry)) budget (now (log .entry))) ⌝ }
+) -> RunResult
+    requires { ⌜ (recordSize * words ≤ length (now image)) × (words ≤ mostRecords) ⌝ }
+    ensures { λ r. ⌜ (r ≡ runAnswer (take (recordSize * words) (now (image .entry))) device freshSequencer (now (events .entry)) budget (now (log .entry))) × (now (log .exit) ≡ logAfter (take (recordSize * words) (now (image .entry))) device freshSequencer (now (events .entry)) budget (now (log .entry))) ⌝ }
 {
-    let end = 12 * index(words);
+    let end = Record::SIZE * index(words);
     let fresh = Sequencer::fresh();
     sequencer::run(&image[..end], device, fresh, events, budget, log)
 }
@@ -41,14 +43,14 @@ fn run_script(
     events: &[u32],
     budget: u32,
     log: &mut [u32],
-) -> Ran
+) -> RunResult
     requires { ⌜ 12288 ≤ length (now image) ⌝ }
     ensures { λ r. ⌜ (r ≡ wholeAnswer (now (script .entry)) device (now (events .entry)) budget (now (log .entry))) × (now (log .exit) ≡ wholeLog (now (script .entry)) device (now (events .entry)) budget (now (log .entry))) ⌝ }
 {
     let compiled = compiler::compile(script, image);
     if compiled.refusal != 0 {
         let fresh = Sequencer::fresh();
-        return Ran {
+        return RunResult {
             outcome: compiled.refusal,
             place: compiled.place,
             steps: 0,
@@ -68,7 +70,7 @@ pub fn compile_and_run(
     events: &[u32],
     budget: u32,
     log: &mut [u32],
-) -> Ran
+) -> RunResult
     ensures { λ r. ⌜ (r ≡ wholeAnswer (now (script .entry)) device (now (events .entry)) budget (now (log .entry))) × (now (log .exit) ≡ wholeLog (now (script .entry)) device (now (events .entry)) budget (now (log .entry))) ⌝ }
 {
     let mut image = [0u8; 12288];

@@ -9,6 +9,7 @@ use Rattle.device.specs.Device.{deviceInRange, outputsOf}
 use Rattle.device.specs.Dispatch.{deviceAccess}
 use Rattle.device.specs.Event.{applyEvent, isEvent}
 use Rattle.device.specs.declared.Device.{Device}
+use Rattle.outcome.specs.Number as number
 use Rattle.device.specs.declared.Outputs.{Outputs}
 use Rattle.device.specs.declared.AccessResult.{AccessResult}
 use Rattle.device.specs.declared.lone.LoneAccess.{LoneAccess}
@@ -36,7 +37,7 @@ accessDone r = record {
 
 unfoldable pub loneAccess : Device → Access → LoneAccess
 loneAccess d x =
-    cond (deviceInRange d) (cond (isAccess x) (accessDone (deviceAccess d x)) (accessRefused 4 d)) (accessRefused 11 d)
+    cond (deviceInRange d) (cond (isAccess x) (accessDone (deviceAccess d x)) (accessRefused number.badField d)) (accessRefused number.badState d)
 
 abbrev pub eventRefused : ℕ → Device → LoneEvent
 eventRefused n d = record { refusal = n; place = 0; outputs = noOutputs; device = d }
@@ -46,4 +47,4 @@ eventDone d = record { refusal = 0; place = 0; outputs = outputsOf d; device = d
 
 unfoldable pub loneEvent : Device → ℕ → LoneEvent
 loneEvent d n =
-    cond (deviceInRange d) (cond (isEvent n) (eventDone (applyEvent d n)) (eventRefused 12 d)) (eventRefused 11 d)
+    cond (deviceInRange d) (cond (isEvent n) (eventDone (applyEvent d n)) (eventRefused number.badEvent d)) (eventRefused number.badState d)

@@ -23,12 +23,6 @@ pub struct LoneEvent {
     pub outputs: Outputs,
 }
 
-pub const BAD_ACCESS: u32 = 4;
-
-pub const BAD_STATE: u32 = 11;
-
-pub const BAD_EVENT: u32 = 12;
-
 fn is_access(access: Access) -> bool
     ensures { λ r. ⌜ r ≡ isAccess access ⌝ }
 {
@@ -113,10 +107,10 @@ impl Device {
         ensures { λ r. ⌜ r ≡ loneAccess self access ⌝ }
     {
         if !self.in_range() {
-            return access_refused(BAD_STATE, self);
+            return access_refused(outcome::BAD_STATE, self);
         }
         if !is_access(access) {
-            return access_refused(BAD_ACCESS, self);
+            return access_refused(outcome::BAD_FIELD, self);
         }
         access_done(self.access(access))
     }
@@ -125,10 +119,10 @@ impl Device {
         ensures { λ r. ⌜ r ≡ loneEvent self number ⌝ }
     {
         if !self.in_range() {
-            return event_refused(BAD_STATE, self);
+            return event_refused(outcome::BAD_STATE, self);
         }
         if !crate::event::is_event(number) {
-            return event_refused(BAD_EVENT, self);
+            return event_refused(outcome::BAD_EVENT, self);
         }
         event_done(self.apply_event(number))
     }

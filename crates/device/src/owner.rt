@@ -44,7 +44,7 @@ fn in_ports(first: u32, last: u32, port: u32) -> bool
 fn is_active(config: Config) -> bool
     ensures { λ r. ⌜ r ≡ isActive config ⌝ }
 {
-    mask::has(config.activate, Config::ACTIVATE_MASK)
+    mask::has8(config.activate, Config::ACTIVATE_MASK)
 }
 
 fn monitor_claims(config: Config, port: u32) -> bool

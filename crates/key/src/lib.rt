@@ -66,7 +66,7 @@ impl Key {
         requires { ⌜ at < 32 ⌝ }
         ensures { λ r. ⌜ r ≡ keyRead self control at ⌝ }
     {
-        if mask::has(control, Key::READ_LOCK) {
+        if mask::has8(control, Key::READ_LOCK) {
             return Answer::status_only(Answer::BLOCKED);
         }
         Answer::done(mask::wide8(self.bytes[at]))
@@ -76,7 +76,7 @@ impl Key {
         requires { ⌜ at < 32 ⌝ }
         ensures { λ r. ⌜ result (r .answer) (r .block) ≡ keyWrite self control at value ⌝ }
     {
-        if mask::has(control, Key::WRITE_LOCK) {
+        if mask::has8(control, Key::WRITE_LOCK) {
             return self.status(Answer::BLOCKED);
         }
         self.bytes[at] = value;

@@ -17,12 +17,12 @@ slice-at z (suc n) at xs zero l = ap (λ (i : ℕ). getD xs i z) (omega arith)
 slice-at z (suc n) at xs (suc k) l =
     slice-at z n (suc at) xs k (omega arith) ∙ ap (λ (i : ℕ). getD xs i z) (omega arith)
 
-pub slice-behind : {A : Type 0} (z : A) (n at : ℕ) (x : A) (xs : List A) → slice z n (suc at) (x ∷ xs) ≡ slice z n at xs
-slice-behind z zero at x xs = refl
-slice-behind z (suc n) at x xs = ap (_∷_ (getD xs at z)) (slice-behind z n (suc at) x xs)
+pub slice-after : {A : Type 0} (z : A) (n at : ℕ) (x : A) (xs : List A) → slice z n (suc at) (x ∷ xs) ≡ slice z n at xs
+slice-after z zero at x xs = refl
+slice-after z (suc n) at x xs = ap (_∷_ (getD xs at z)) (slice-after z n (suc at) x xs)
 
 pub slice-whole : {A : Type 0} (z : A) (n : ℕ) (xs : List A) → length xs ≡ n → slice z n 0 xs ≡ xs
 slice-whole z zero [] e = refl
 slice-whole z zero (x ∷ xs) e = absurd (omega arith)
 slice-whole z (suc n) [] e = absurd (omega arith)
-slice-whole z (suc n) (x ∷ xs) e = ap (_∷_ x) (slice-behind z n 0 x xs ∙ slice-whole z n xs (omega arith))
+slice-whole z (suc n) (x ∷ xs) e = ap (_∷_ x) (slice-after z n 0 x xs ∙ slice-whole z n xs (omega arith))

@@ -41,25 +41,25 @@ stack-set-top n xs v h l =
     ∙ ap (_∷_ v) (stack-store (n - 1) xs (n - 1) v (omega arith))
 
 -- ---- a stack laid out, bottom first, in front of a rest: its top is the element in front of the rest
-pub laid-top : (c : ℕ) (cs rest : List ℕ) → reverse (c ∷ cs) ++ rest ≡ reverse cs ++ (c ∷ rest)
-laid-top c cs rest = sym (reverseAux-eq (c ∷ cs) rest) ∙ reverseAux-eq cs (c ∷ rest)
+pub array-top : (c : ℕ) (cs rest : List ℕ) → reverse (c ∷ cs) ++ rest ≡ reverse cs ++ (c ∷ rest)
+array-top c cs rest = sym (reverseAux-eq (c ∷ cs) rest) ∙ reverseAux-eq cs (c ∷ rest)
 
-pub laid-push : (cs rest : List ℕ) (x v : ℕ) → set (reverse cs ++ (x ∷ rest)) (length cs) v ≡ reverse (v ∷ cs) ++ rest
-laid-push cs rest x v = set-at (reverse cs) x rest v (length cs) (length-reverse cs) ∙ sym (laid-top v cs rest)
+pub array-push : (cs rest : List ℕ) (x v : ℕ) → set (reverse cs ++ (x ∷ rest)) (length cs) v ≡ reverse (v ∷ cs) ++ rest
+array-push cs rest x v = set-at (reverse cs) x rest v (length cs) (length-reverse cs) ∙ sym (array-top v cs rest)
 
-pub laid-set-top : (c : ℕ) (cs rest : List ℕ) (v : ℕ) → set (reverse (c ∷ cs) ++ rest) (length cs) v ≡ reverse (v ∷ cs) ++ rest
-laid-set-top c cs rest v = rw (laid-top c cs rest) (laid-push cs rest c v)
+pub array-set-top : (c : ℕ) (cs rest : List ℕ) (v : ℕ) → set (reverse (c ∷ cs) ++ rest) (length cs) v ≡ reverse (v ∷ cs) ++ rest
+array-set-top c cs rest v = rw (array-top c cs rest) (array-push cs rest c v)
 
 -- the stack of what is laid out, and the other way
-pub stack-laid : (cs rest : List ℕ) → stackOf (length cs) (reverse cs ++ rest) ≡ cs
-stack-laid [] rest = refl
-stack-laid (c ∷ cs) rest =
-    rw (laid-top c cs rest, getD-at (reverse cs) c rest 0 (length cs) (length-reverse cs), stack-laid cs (c ∷ rest))
+pub stack-array : (cs rest : List ℕ) → stackOf (length cs) (reverse cs ++ rest) ≡ cs
+stack-array [] rest = refl
+stack-array (c ∷ cs) rest =
+    rw (array-top c cs rest, getD-at (reverse cs) c rest 0 (length cs) (length-reverse cs), stack-array cs (c ∷ rest))
 
-pub laid-stack : (n k : ℕ) (xs : List ℕ) → reverse (stackOf n xs) ++ slice 0 k n xs ≡ slice 0 (n + k) 0 xs
-laid-stack zero k xs =
+pub array-stack : (n k : ℕ) (xs : List ℕ) → reverse (stackOf n xs) ++ slice 0 k n xs ≡ slice 0 (n + k) 0 xs
+array-stack zero k xs =
     let e : 0 + k ≡ k = omega arith in
     rw e
-laid-stack (suc n) k xs =
+array-stack (suc n) k xs =
     let e : suc n + k ≡ n + suc k = omega arith in
-    rw e (laid-top (getD xs n 0) (stackOf n xs) (slice 0 k (suc n) xs) ∙ laid-stack n (suc k) xs)
+    rw e (array-top (getD xs n 0) (stackOf n xs) (slice 0 k (suc n) xs) ∙ array-stack n (suc k) xs)

@@ -30,7 +30,7 @@ pub fn within16(mask: u16, value: u16) -> bool
 }
 
 // Is a bit of the mask set?
-pub fn has(value: u8, mask: u8) -> bool
+pub fn has8(value: u8, mask: u8) -> bool
     ensures { λ r. ⌜ r ≡ hasBit mask value ⌝ }
 {
     value & mask != 0

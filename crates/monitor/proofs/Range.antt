@@ -27,7 +27,7 @@ use Rattle.monitor.specs.Monitor.{
   monitorInRange,
   monitorReset,
   register,
-  sensed,
+  withSensors,
   stored,
   writeAs,
 }
@@ -54,8 +54,8 @@ fresh-in-range =
     (ltb-true (getD storedIndices k 0) 256 (all-at 12 (λ j. ltb (getD storedIndices j 0) 256) refl k l))))
 
 -- the monitor after an access is in range
-abbrev Kept : Result Monitor → Type 0
-Kept r = monitorInRange (r .block) ≡ true
+abbrev ResultInRange : Result Monitor → Type 0
+ResultInRange r = monitorInRange (r .block) ≡ true
 
 module _ (m : Monitor) (h : monitorInRange m ≡ true) where
   pub reset-in-range : (level : ℕ) → monitorInRange (monitorReset m level) ≡ true
@@ -73,44 +73,44 @@ module _ (m : Monitor) (h : monitorInRange m ≡ true) where
         all-stored 12 (λ k. within (maskOf (getD storedIndices k 0))) (m .registers) (slotOf i) v
         (rw (stored-at-slot i s) k) h
 
-    lockable-in-range : (v : ℕ) → within (maskOf i) v ≡ true → Kept (lockableWrite m i v)
+    lockable-in-range : (v : ℕ) → within (maskOf i) v ≡ true → ResultInRange (lockableWrite m i v)
     unfolding lockableWrite
-    lockable-in-range v k = branch Kept (lockSet m) h (stored-in-range v k)
+    lockable-in-range v k = branch ResultInRange (lockSet m) h (stored-in-range v k)
 
   module _ (i v : ℕ) where
     masked : within (maskOf i) (bitAnd v (maskOf i)) ≡ true
     masked = within-masked (maskOf i) v
 
-    write-in-range : (kind : ℕ) → kind ≡ kindOf i → Kept (writeAs kind m i v)
+    write-in-range : (kind : ℕ) → kind ≡ kindOf i → ResultInRange (writeAs kind m i v)
     unfolding writeAs
     write-in-range kind e =
-        branch-on Kept (eqb kind lock)
+        branch-on ResultInRange (eqb kind lock)
         (λ t. lockable-in-range i (changes lock t (omega arith)) (bitOr (register m i) (bitAnd v (maskOf i)))
         (within-or (maskOf i) (register m i) (bitAnd v (maskOf i)) (register-within i (changes lock t (omega arith)))
         masked))
-        (λ _. branch Kept (eqb kind readOnly) h
-        (branch-on Kept (eqb kind lockable)
+        (λ _. branch ResultInRange (eqb kind readOnly) h
+        (branch-on ResultInRange (eqb kind lockable)
         (λ t. lockable-in-range i (changes lockable t (omega arith)) (bitAnd v (maskOf i)) masked)
-        (λ _. branch-on Kept (eqb kind write1Clears)
+        (λ _. branch-on ResultInRange (eqb kind write1Clears)
         (λ t. stored-in-range i (changes write1Clears t (omega arith)) (cleared 0xFF (register m i) v)
         (within-and (maskOf i) (register m i) (0xFF - v) (register-within i (changes write1Clears t (omega arith)))))
-        (λ _. branch-on Kept (eqb kind unlocked)
+        (λ _. branch-on ResultInRange (eqb kind unlocked)
         (λ t. stored-in-range i (changes unlocked t (omega arith)) (bitAnd v (maskOf i)) masked)
         (λ _. h)))))
       where
         changes : (k : ℕ) → eqb kind k ≡ true → readOnly < k → readOnly < kindOf i
         changes k t l = let d = eqb-true kind k t in omega (arith, d, e, l)
 
-  read-in-range : Kept (dataRead m)
+  read-in-range : ResultInRange (dataRead m)
   unfolding dataRead
-  read-in-range = branch Kept (eqb (kindOf (m .index)) absent) h h
+  read-in-range = branch ResultInRange (eqb (kindOf (m .index)) absent) h h
 
   pub access-in-range : (offset : ℕ) (x : Access) → monitorInRange (monitorAccess m offset x .block) ≡ true
   unfolding monitorAccess
   access-in-range offset x =
-      branch Kept (takesByte (x .width))
-      (branch Kept (eqb offset 0) (branch Kept (x .write) h h)
-      (branch Kept (x .write) (write-in-range (m .index) (x .value % 256) (kindOf (m .index)) refl) read-in-range))
+      branch ResultInRange (takesByte (x .width))
+      (branch ResultInRange (eqb offset 0) (branch ResultInRange (x .write) h h)
+      (branch ResultInRange (x .write) (write-in-range (m .index) (x .value % 256) (kindOf (m .index)) refl) read-in-range))
       h
 
   pub event-in-range : (kind operand : ℕ) → monitorInRange (monitorEvent m kind operand) ≡ true

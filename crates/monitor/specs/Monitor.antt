@@ -91,11 +91,11 @@ monitorAccess m offset x =
     cond (takesByte (x .width)) (cond (eqb offset 0) (indexAccess m x) (dataAccess m x)) (status 1 m)
 
 -- ---- "5 sensor (0 to 3, set in 83h)"
-abbrev pub sensed : Monitor → ℕ → Monitor
-sensed m bits = stored m 0x83 (bitOr (register m 0x83) bits)
+abbrev pub withSensors : Monitor → ℕ → Monitor
+withSensors m bits = stored m 0x83 (bitOr (register m 0x83) bits)
 
 abbrev pub monitorEvent : Monitor → ℕ → ℕ → Monitor
-monitorEvent m kind operand = cond (eqb kind 5) (sensed m (operand % 4)) m
+monitorEvent m kind operand = cond (eqb kind 5) (withSensors m (operand % 4)) m
 
 -- "The monitor interrupt is on exactly if INTEN, VOLT and either both VTR bits or both VBAT bits are set."
 abbrev pub interrupt : Monitor → Bool

@@ -9,6 +9,10 @@ use Rattle.record.specs.declared.Record.{Record}
 abbrev pub recordSize : ℕ
 recordSize = 12
 
+-- the most records of a script, and the most words of an image: "over 1,024 records", "over 1,024 words"
+abbrev pub mostRecords : ℕ
+mostRecords = 1024
+
 -- the record whose twelve bytes start at a place
 unfoldable pub recordAt : List ℕ → ℕ → Record
 recordAt bytes at = record {

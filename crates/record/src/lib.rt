@@ -23,6 +23,9 @@ pub struct Record {
 
 impl Record {
     pub const SIZE: usize = 12;
+
+    // The most records of a script, and the most words of an image.
+    pub const MOST: usize = 1024;
     // 5A A5 and C3 3C, in the order of the bytes.
     pub const SCRIPT_MARK: u32 = 0xA55A;
 

@@ -1,10 +1,10 @@
 // The lines that `replay` prints, each written whole.
-use crate::held::Held;
+use crate::session::Session;
 use device::Device;
 use device::Outputs;
 use libc::STDOUT_FILENO;
-use machine::Sequencer;
-use sequencer::Ran;
+use sequencer::RunResult;
+use step::Sequencer;
 
 fn write(line: &[u8], end: usize) {
     if end <= line.len() {
@@ -183,33 +183,33 @@ fn put_log(line: &mut [u8], at: usize, log: &[u32], size: usize) -> usize {
 }
 
 // What is held after a run, and the first `size` values of the log.
-fn put_held(line: &mut [u8], at: usize, held: Held, log: &[u32], size: usize) -> usize {
-    let device = held.device;
-    let sequencer = held.sequencer;
+fn put_session(line: &mut [u8], at: usize, session: Session, log: &[u32], size: usize) -> usize {
+    let device = session.device;
+    let sequencer = session.sequencer;
     let a = put_sequencer(line, at, sequencer);
     let b = digits::put(line, a, b' ');
     let c = put_state(line, b, device);
     put_log(line, c, log, size)
 }
 
-fn put_ended(line: &mut [u8], ran: Ran) -> usize {
+fn put_ended(line: &mut [u8], result: RunResult) -> usize {
     let a = digits::put_text(line, 0, b"ENDED");
-    let b = put_next(line, a, ran.outcome);
-    let c = put_next(line, b, ran.steps);
-    let d = put_next(line, c, short(ran.taken));
-    put_next(line, d, short(ran.logged))
+    let b = put_next(line, a, result.outcome);
+    let c = put_next(line, b, result.steps);
+    let d = put_next(line, c, short(result.taken));
+    put_next(line, d, short(result.logged))
 }
 
-pub fn run_ended(ran: Ran, held: Held, log: &[u32], size: usize) {
+pub fn run_ended(result: RunResult, session: Session, log: &[u32], size: usize) {
     let mut line = [0u8; 17000];
-    let a = put_ended(&mut line, ran);
-    let b = put_held(&mut line, a, held, log, size);
+    let a = put_ended(&mut line, result);
+    let b = put_session(&mut line, a, session, log, size);
     print(&mut line, b);
 }
 
-pub fn run_refused(number: u32, place: u32, held: Held, log: &[u32], size: usize) {
+pub fn run_refused(number: u32, place: u32, session: Session, log: &[u32], size: usize) {
     let mut line = [0u8; 17000];
     let a = put_refusal(&mut line, number, place);
-    let b = put_held(&mut line, a, held, log, size);
+    let b = put_session(&mut line, a, session, log, size);
     print(&mut line, b);
 }

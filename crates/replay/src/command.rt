@@ -1,8 +1,8 @@
 // One command: read, done on what is held, answered. A line that is no command leaves all as it is.
 use crate::answer;
-use crate::held::Held;
 use crate::runs;
 use crate::scripts;
+use crate::session::Session;
 use access::Access;
 use device::Device;
 
@@ -107,7 +107,7 @@ fn load(device: Device, line: &[u8]) -> Device {
         answer::loaded();
         return next;
     }
-    answer::refused(device::lone::BAD_STATE, 0);
+    answer::refused(outcome::BAD_STATE, 0);
     device
 }
 
@@ -162,22 +162,22 @@ fn on_device(device: Device, line: &[u8], kind: u8) -> Device {
     unread(device)
 }
 
-pub fn run(held: Held, line: &[u8]) -> Held {
+pub fn run(session: Session, line: &[u8]) -> Session {
     let kind = letter(line);
     if kind == b'C' {
         scripts::run(line);
-        return held;
+        return session;
     }
     if kind == b'Q' {
-        return runs::set_sequencer(held, line);
+        return runs::set_sequencer(session, line);
     }
     if kind == b'X' {
-        return runs::run(held, line, false);
+        return runs::run(session, line, false);
     }
     if kind == b'T' {
-        return runs::run(held, line, true);
+        return runs::run(session, line, true);
     }
-    let device = held.device;
+    let device = session.device;
     let next = on_device(device, line, kind);
-    held.with_device(next)
+    session.with_device(next)
 }

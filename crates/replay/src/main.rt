@@ -1,12 +1,12 @@
 // Drives one device and one sequencer from a stream of commands: docs/CASES.md has the form of the stream and of the answers.
 mod answer;
 mod command;
-mod held;
 mod runs;
 mod scripts;
+mod session;
 mod strings;
 
-use crate::held::Held;
+use crate::session::Session;
 use libc::STDIN_FILENO;
 
 // The most bytes that a line may have, and how many are read at a time.
@@ -22,16 +22,16 @@ fn kept(line: &mut [u8; 65536], length: usize, b: u8) -> usize {
 }
 
 // A line that is too long is no command.
-fn command_of(held: Held, line: &[u8], length: usize) -> Held {
+fn command_of(session: Session, line: &[u8], length: usize) -> Session {
     if length <= line.len() {
-        return command::run(held, &line[..length]);
+        return command::run(session, &line[..length]);
     }
     answer::unread();
-    held
+    session
 }
 
-fn line_done(held: Held, line: &[u8; 65536], length: usize) -> Held {
-    command_of(held, line, length)
+fn line_done(session: Session, line: &[u8; 65536], length: usize) -> Session {
+    command_of(session, line, length)
 }
 
 // The next bytes of the stream, and how many there are.
@@ -43,7 +43,7 @@ fn refill(chunk: &mut [u8; 65536]) -> usize {
 fn main() {
     let mut chunk = [0u8; 65536];
     let mut line = [0u8; 65536];
-    let mut held = Held::fresh();
+    let mut session = Session::fresh();
     let mut length: usize = 0;
     let mut at: usize = 0;
     let mut count: usize = 0;
@@ -60,14 +60,14 @@ fn main() {
         let b = byte_at(&chunk, at);
         at = digits::after(at, 1);
         if b == b'\n' {
-            held = line_done(held, &line, length);
+            session = line_done(session, &line, length);
             length = 0;
         } else {
             length = kept(&mut line, length, b);
         }
     }
     if 0 < length {
-        line_done(held, &line, length);
+        line_done(session, &line, length);
     }
 }
 

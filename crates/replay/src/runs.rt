@@ -1,25 +1,25 @@
 // The commands that set the sequencer, run an image and run a script.
 use crate::answer;
-use crate::held::Held;
+use crate::session::Session;
 use crate::strings;
-use machine::Sequencer;
-use sequencer::Ran;
+use sequencer::RunResult;
+use step::Sequencer;
 
-fn unread(held: Held) -> Held {
+fn unread(session: Session) -> Session {
     answer::unread();
-    held
+    session
 }
 
 // ---- the sequencer
 
-fn set(held: Held, sequencer: Sequencer) -> Held {
+fn set(session: Session, sequencer: Sequencer) -> Session {
     answer::set();
-    held.with_sequencer(sequencer)
+    session.with_sequencer(sequencer)
 }
 
-fn set_fresh(held: Held) -> Held {
+fn set_fresh(session: Session) -> Session {
     let sequencer = Sequencer::fresh();
-    set(held, sequencer)
+    set(session, sequencer)
 }
 
 // The eight counters from a place on, and the place behind them; 0 where the line has no such numbers.
@@ -36,41 +36,41 @@ fn counters_from(line: &[u8], at: usize, counters: &mut [u32; 8]) -> usize {
     next
 }
 
-fn set_counters(held: Held, line: &[u8], at: usize, place: u32, used: usize) -> Held {
+fn set_counters(session: Session, line: &[u8], at: usize, place: u32, used: usize) -> Session {
     let mut counters = [0u32; 8];
     let end = counters_from(line, at, &mut counters);
     if !digits::ends(line, end) {
-        return unread(held);
+        return unread(session);
     }
     let sequencer = Sequencer {
         place,
         counters,
         used,
     };
-    set(held, sequencer)
+    set(session, sequencer)
 }
 
 // Q, Q place used c0 c1 c2 c3 c4 c5 c6 c7
-pub fn set_sequencer(held: Held, line: &[u8]) -> Held {
+pub fn set_sequencer(session: Session, line: &[u8]) -> Session {
     if digits::ends(line, 1) {
-        return set_fresh(held);
+        return set_fresh(session);
     }
     let place = digits::next_number(line, 1);
     if !place.ok {
-        return unread(held);
+        return unread(session);
     }
     let used = digits::next_number(line, place.next);
     if !used.ok {
-        return unread(held);
+        return unread(session);
     }
-    set_counters(held, line, used.next, place.value, used.value as usize)
+    set_counters(session, line, used.next, place.value, used.value as usize)
 }
 
 // ---- the runs
 
 // What a run is asked with: a script or an image, the budget, the log's length, and where the events and the bytes stand
 // in the line and how many there are.
-struct Asked {
+struct RunRequest {
     compiles: bool,
     budget: u32,
     size: usize,
@@ -88,106 +88,112 @@ fn lend(log: &mut [u32; 2048]) {
 }
 
 // What is held after a run that is not refused.
-fn held_of(ran: Ran) -> Held {
-    let device = ran.device;
-    let sequencer = ran.sequencer;
-    Held { device, sequencer }
+fn session_of(result: RunResult) -> Session {
+    let device = result.device;
+    let sequencer = result.sequencer;
+    Session { device, sequencer }
 }
 
 // After a refusal all is held as it was.
-fn answered(held: Held, ran: Ran, log: &[u32], size: usize) -> Held {
-    if sequencer::is_refusal(ran.outcome) {
-        answer::run_refused(ran.outcome, ran.place, held, log, size);
-        return held;
+fn answered(session: Session, result: RunResult, log: &[u32], size: usize) -> Session {
+    if sequencer::is_refusal(result.outcome) {
+        answer::run_refused(result.outcome, result.place, session, log, size);
+        return session;
     }
-    let next = held_of(ran);
-    answer::run_ended(ran, next, log, size);
+    let next = session_of(result);
+    answer::run_ended(result, next, log, size);
     next
 }
 
 // Runs an image on what is held, or a script on the device that is held; a line that asks for more than there is room for is no
 // command.
-fn run_within(held: Held, asked: Asked, bytes: &[u8], events: &[u32], log: &mut [u32]) -> Held {
-    let count = asked.bytes;
-    let number = asked.events;
-    let size = asked.size;
+fn run_within(
+    session: Session,
+    request: RunRequest,
+    bytes: &[u8],
+    events: &[u32],
+    log: &mut [u32],
+) -> Session {
+    let count = request.bytes;
+    let number = request.events;
+    let size = request.size;
     if bytes.len() < count {
-        return unread(held);
+        return unread(session);
     }
     if events.len() < number {
-        return unread(held);
+        return unread(session);
     }
     if log.len() < size {
-        return unread(held);
+        return unread(session);
     }
-    let device = held.device;
-    if asked.compiles {
-        let ran = correct::compile_and_run(
+    let device = session.device;
+    if request.compiles {
+        let result = correct::compile_and_run(
             &bytes[..count],
             device,
             &events[..number],
-            asked.budget,
+            request.budget,
             &mut log[..size],
         );
-        return answered(held, ran, log, size);
+        return answered(session, result, log, size);
     }
-    let sequencer = held.sequencer;
-    let ran = sequencer::run(
+    let sequencer = session.sequencer;
+    let result = sequencer::run(
         &bytes[..count],
         device,
         sequencer,
         &events[..number],
-        asked.budget,
+        request.budget,
         &mut log[..size],
     );
-    answered(held, ran, log, size)
+    answered(session, result, log, size)
 }
 
 fn run_on(
-    held: Held,
-    asked: Asked,
+    session: Session,
+    request: RunRequest,
     bytes: &[u8; 16384],
     events: &[u32; 4352],
     log: &mut [u32; 2048],
-) -> Held {
-    run_within(held, asked, bytes, events, log)
+) -> Session {
+    run_within(session, request, bytes, events, log)
 }
 
-fn run_asked(held: Held, line: &[u8], asked: Asked) -> Held {
+fn run_request(session: Session, line: &[u8], request: RunRequest) -> Session {
     let mut bytes = [0u8; 16384];
     let mut events = [0u32; 4352];
     let mut log = [0u32; 2048];
-    strings::copy_bytes(line, asked.bytes_at, asked.bytes, &mut bytes);
-    strings::copy_numbers(line, asked.events_at, asked.events, &mut events);
+    strings::copy_bytes(line, request.bytes_at, request.bytes, &mut bytes);
+    strings::copy_numbers(line, request.events_at, request.events, &mut events);
     lend(&mut log);
-    run_on(held, asked, &bytes, &events, &mut log)
+    run_on(session, request, &bytes, &events, &mut log)
 }
 
 // X budget size events image, T budget size events script
-pub fn run(held: Held, line: &[u8], compiles: bool) -> Held {
+pub fn run(session: Session, line: &[u8], compiles: bool) -> Session {
     let budget = digits::next_number(line, 1);
     if !budget.ok {
-        return unread(held);
+        return unread(session);
     }
     let size = digits::next_number(line, budget.next);
     if !size.ok {
-        return unread(held);
+        return unread(session);
     }
     let events = strings::next_string_or_dash(line, size.next);
     if !events.ok {
-        return unread(held);
+        return unread(session);
     }
     if events.count % 4 != 0 {
-        return unread(held);
+        return unread(session);
     }
     let bytes = strings::next_string_or_dash(line, events.next);
     if !bytes.ok {
-        return unread(held);
+        return unread(session);
     }
     if !digits::ends(line, bytes.next) {
-        return unread(held);
+        return unread(session);
     }
-    let asked = Asked {
+    let request = RunRequest {
         compiles,
         budget: budget.value,
         size: size.value as usize,
@@ -196,5 +202,5 @@ pub fn run(held: Held, line: &[u8], compiles: bool) -> Held {
         bytes_at: bytes.at,
         bytes: bytes.count,
     };
-    run_asked(held, line, asked)
+    run_request(session, line, request)
 }

@@ -9,28 +9,28 @@ use Rattle.device.specs.declared.lone.LoneAccess.{LoneAccess}
 use Rattle.device.specs.declared.lone.LoneEvent.{LoneEvent}
 use Rattle.runnelopal.specs.Calls.{savedAccess, savedEvent}
 use Rattle.state.specs.State.{loaded}
-use Rattle.state.specs.declared.Loaded.{Loaded}
+use Rattle.state.specs.declared.LoadResult.{LoadResult}
 
 pub access-answered :
-    (state : List ℕ) (x : Access) (l : Loaded) (r : LoneAccess) → l ≡ loaded state → l .valid ≡ true → r ≡ loneAccess (l .device) x
+    (state : List ℕ) (x : Access) (l : LoadResult) (r : LoneAccess) → l ≡ loaded state → l .valid ≡ true → r ≡ loneAccess (l .device) x
     → r ≡ savedAccess state x
 unfolding savedAccess
 access-answered state x l r e v a = rw (← e, v) a
 
 pub access-no-state :
-    (state : List ℕ) (x : Access) (l : Loaded) (r : LoneAccess) → l ≡ loaded state → l .valid ≡ false → r ≡ accessRefused 11 (l .device)
+    (state : List ℕ) (x : Access) (l : LoadResult) (r : LoneAccess) → l ≡ loaded state → l .valid ≡ false → r ≡ accessRefused 11 (l .device)
     → r ≡ savedAccess state x
 unfolding savedAccess
 access-no-state state x l r e v a = rw (← e, v) a
 
 pub event-answered :
-    (state : List ℕ) (x : ℕ) (l : Loaded) (r : LoneEvent) → l ≡ loaded state → l .valid ≡ true → r ≡ loneEvent (l .device) x
+    (state : List ℕ) (x : ℕ) (l : LoadResult) (r : LoneEvent) → l ≡ loaded state → l .valid ≡ true → r ≡ loneEvent (l .device) x
     → r ≡ savedEvent state x
 unfolding savedEvent
 event-answered state x l r e v a = rw (← e, v) a
 
 pub event-no-state :
-    (state : List ℕ) (x : ℕ) (l : Loaded) (r : LoneEvent) → l ≡ loaded state → l .valid ≡ false → r ≡ eventRefused 11 (l .device)
+    (state : List ℕ) (x : ℕ) (l : LoadResult) (r : LoneEvent) → l ≡ loaded state → l .valid ≡ false → r ≡ eventRefused 11 (l .device)
     → r ≡ savedEvent state x
 unfolding savedEvent
 event-no-state state x l r e v a = rw (← e, v) a

@@ -12,8 +12,8 @@ use Rattle.device.specs.declared.Outputs.{Outputs}
 use Rattle.device.specs.declared.lone.LoneAccess.{LoneAccess}
 use Rattle.device.specs.declared.lone.LoneEvent.{LoneEvent}
 use Rattle.sequencer.specs.Run.{isRefusal, runAnswer}
-use Rattle.machine.specs.Sequencer.{freshSequencer}
-use Rattle.sequencer.specs.declared.Ran.{Ran}
+use Rattle.step.specs.Sequencer.{freshSequencer}
+use Rattle.sequencer.specs.declared.RunResult.{RunResult}
 use Rattle.little_endian.specs.Bytes.{flagByte}
 use Rattle.state.specs.State.{loaded, saved}
 
@@ -23,15 +23,15 @@ numbered k [] answer = answer
 numbered k (n ∷ ns) answer = numbered (suc k) ns (set answer k n)
 
 -- an image run on a fresh device from a fresh sequencer
-abbrev pub freshRun : List ℕ → List ℕ → ℕ → List ℕ → Ran
+abbrev pub freshRun : List ℕ → List ℕ → ℕ → List ℕ → RunResult
 freshRun image events budget log = runAnswer image freshDevice freshSequencer events budget log
 
-abbrev pub runNumbers : Ran → List ℕ
+abbrev pub runNumbers : RunResult → List ℕ
 runNumbers r = r .place ∷ r .steps ∷ r .taken ∷ r .logged ∷ r .sequencer .place ∷ []
 
 -- a refused run leaves the state as it was
-abbrev pub keptRun : ℕ → Device → List ℕ → List ℕ
-keptRun outcome d state = cond (isRefusal outcome) state (saved d state)
+abbrev pub runSavedUnlessRefused : ℕ → Device → List ℕ → List ℕ
+runSavedUnlessRefused outcome d state = cond (isRefusal outcome) state (saved d state)
 
 abbrev pub outputNumbers : Outputs → List ℕ
 outputNumbers o = flagByte (o .sci) ∷ flagByte (o .smi) ∷ flagByte (o .monitor) ∷ []
@@ -46,8 +46,8 @@ savedEvent state n =
     cond (loaded state .valid) (loneEvent (loaded state .device) n) (eventRefused 11 (loaded state .device))
 
 -- a refusal leaves the state as it was
-abbrev pub kept : ℕ → Device → List ℕ → List ℕ
-kept refusal d state = cond (eqb refusal 0) (saved d state) state
+abbrev pub savedUnlessRefused : ℕ → Device → List ℕ → List ℕ
+savedUnlessRefused refusal d state = cond (eqb refusal 0) (saved d state) state
 
 abbrev pub accessOf : Bool → (width port value : ℕ) → Access
 accessOf write w p v = record { write = write; width = w; port = p; value = v }

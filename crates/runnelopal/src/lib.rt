@@ -5,18 +5,18 @@ use device::Device;
 use device::Outputs;
 use device::lone::LoneAccess;
 use device::lone::LoneEvent;
-use machine::Sequencer;
-use sequencer::Ran;
+use sequencer::RunResult;
+use step::Sequencer;
 ghost use mathlib.Core.Path.{_≡_};
 ghost use mathlib.Core.List.{[], _∷_};
 ghost use mathlib.Core.Bool.{cond};
 ghost use Prim.Native.Nat.{_<_};
 ghost use lib.Dec.{eqb};
 ghost use lib.ListN.{length, set};
-ghost use Rattle.compiler.specs.Compile.{compiled, imageAfter};
+ghost use Rattle.compiler.specs.Compile.{compileResult, imageAfter};
 ghost use Rattle.device.specs.Device.{freshDevice};
 ghost use Rattle.sequencer.specs.Run.{logAfter};
-ghost use Rattle.machine.specs.Sequencer.{freshSequencer};
+ghost use Rattle.step.specs.Sequencer.{freshSequencer};
 ghost use Rattle.little_endian.specs.Bytes.{flagByte};
 ghost use Rattle.state.specs.State.{saved, stateSize};
 ghost use Rattle.runnelopal.specs.Calls.{
@@ -29,8 +29,8 @@ ghost use Rattle.runnelopal.specs.Calls.{
   savedAccess,
   eventNumbers,
   savedEvent,
-  kept,
-  keptRun,
+  savedUnlessRefused,
+  runSavedUnlessRefused,
 };
 
 fn put(answer: &mut [u64], at: usize, number: u64)
@@ -44,8 +44,8 @@ fn put(answer: &mut [u64], at: usize, number: u64)
 // Compiles a script into a lent image buffer. Numbers: the place of a refusal, the words written.
 #[no_mangle]
 pub extern "C" fn runnelopal_compile(script: &[u8], image: &mut [u8], answer: &mut [u64]) -> u32
-    ensures { λ r. ⌜ (r ≡ compiled (now (script .entry)) (now (image .entry)) .refusal) × (now (image .exit) ≡ imageAfter (now (script .entry)) (now (image .entry))) ⌝ }
-    ensures { λ _. ⌜ now (answer .exit) ≡ numbered 0 (compiled (now (script .entry)) (now (image .entry)) .place ∷ compiled (now (script .entry)) (now (image .entry)) .words ∷ []) (now (answer .entry)) ⌝ }
+    ensures { λ r. ⌜ (r ≡ compileResult (now (script .entry)) (now (image .entry)) .refusal) × (now (image .exit) ≡ imageAfter (now (script .entry)) (now (image .entry))) ⌝ }
+    ensures { λ _. ⌜ now (answer .exit) ≡ numbered 0 (compileResult (now (script .entry)) (now (image .entry)) .place ∷ compileResult (now (script .entry)) (now (image .entry)) .words ∷ []) (now (answer .entry)) ⌝ }
 {
     let r = compiler::compile(script, image);
     put(answer, 0, r.place as u64);
@@ -73,7 +73,7 @@ fn put_outputs(answer: &mut [u64], at: usize, outputs: Outputs)
     put_flag(answer, at + 2, outputs.monitor);
 }
 
-fn put_run(answer: &mut [u64], r: Ran)
+fn put_run(answer: &mut [u64], r: RunResult)
     ensures { λ _. ⌜ now (answer .exit) ≡ numbered 0 (runNumbers r) (now (answer .entry)) ⌝ }
 {
     let sequencer = r.sequencer;
@@ -85,8 +85,8 @@ fn put_run(answer: &mut [u64], r: Ran)
 }
 
 // A refused run leaves the state as it was.
-fn keep_run(state: &mut [u8], outcome: u32, device: Device)
-    ensures { λ _. ⌜ now (state .exit) ≡ keptRun outcome device (now (state .entry)) ⌝ }
+fn save_run_unless_refused(state: &mut [u8], outcome: u32, device: Device)
+    ensures { λ _. ⌜ now (state .exit) ≡ runSavedUnlessRefused outcome device (now (state .entry)) ⌝ }
 {
     if !sequencer::is_refusal(outcome) {
         state::save(device, state);
@@ -105,14 +105,14 @@ pub extern "C" fn runnelopal_run(
     answer: &mut [u64],
 ) -> u32
     ensures { λ r. ⌜ (r ≡ freshRun (now (image .entry)) (now (events .entry)) budget (now (log .entry)) .outcome) × (now (log .exit) ≡ logAfter (now (image .entry)) freshDevice freshSequencer (now (events .entry)) budget (now (log .entry))) ⌝ }
-    ensures { λ _. ⌜ now (state .exit) ≡ keptRun (freshRun (now (image .entry)) (now (events .entry)) budget (now (log .entry)) .outcome) (freshRun (now (image .entry)) (now (events .entry)) budget (now (log .entry)) .device) (now (state .entry)) ⌝ }
+    ensures { λ _. ⌜ now (state .exit) ≡ runSavedUnlessRefused (freshRun (now (image .entry)) (now (events .entry)) budget (now (log .entry)) .outcome) (freshRun (now (image .entry)) (now (events .entry)) budget (now (log .entry)) .device) (now (state .entry)) ⌝ }
     ensures { λ _. ⌜ now (answer .exit) ≡ numbered 0 (runNumbers (freshRun (now (image .entry)) (now (events .entry)) budget (now (log .entry)))) (now (answer .entry)) ⌝ }
 {
     let device = Device::fresh();
     let fresh = Sequencer::fresh();
     let r = sequencer::run(image, device, fresh, events, budget, log);
     let next = r.device;
-    keep_run(state, r.outcome, next);
+    save_run_unless_refused(state, r.outcome, next);
     put_run(answer, r);
     r.outcome
 }
@@ -124,7 +124,7 @@ pub extern "C" fn runnelopal_fresh(state: &mut [u8]) -> u32
 {
     let fresh = Device::fresh();
     if state.len() != state::SIZE {
-        return device::lone::BAD_STATE;
+        return outcome::BAD_STATE;
     }
     state::save(fresh, state);
     0
@@ -149,8 +149,8 @@ fn put_event(answer: &mut [u64], r: LoneEvent)
 }
 
 // A refusal leaves the state as it was.
-fn keep(state: &mut [u8], refusal: u32, device: Device)
-    ensures { λ _. ⌜ now (state .exit) ≡ kept refusal device (now (state .entry)) ⌝ }
+fn save_unless_refused(state: &mut [u8], refusal: u32, device: Device)
+    ensures { λ _. ⌜ now (state .exit) ≡ savedUnlessRefused refusal device (now (state .entry)) ⌝ }
 {
     if refusal == 0 {
         state::save(device, state);
@@ -168,7 +168,7 @@ pub extern "C" fn runnelopal_access(
     answer: &mut [u64],
 ) -> u32
     ensures { λ r. ⌜ r ≡ savedAccess (now (state .entry)) (accessOf write width port value) .refusal ⌝ }
-    ensures { λ _. ⌜ now (state .exit) ≡ kept (savedAccess (now (state .entry)) (accessOf write width port value) .refusal) (savedAccess (now (state .entry)) (accessOf write width port value) .device) (now (state .entry)) ⌝ }
+    ensures { λ _. ⌜ now (state .exit) ≡ savedUnlessRefused (savedAccess (now (state .entry)) (accessOf write width port value) .refusal) (savedAccess (now (state .entry)) (accessOf write width port value) .device) (now (state .entry)) ⌝ }
     ensures { λ _. ⌜ now (answer .exit) ≡ numbered 0 (accessNumbers (savedAccess (now (state .entry)) (accessOf write width port value))) (now (answer .entry)) ⌝ }
 {
     let loaded = state::load(state);
@@ -181,11 +181,11 @@ pub extern "C" fn runnelopal_access(
             value,
         });
         let next = r.device;
-        keep(state, r.refusal, next);
+        save_unless_refused(state, r.refusal, next);
         put_access(answer, r);
         return r.refusal;
     }
-    let r = device::lone::access_refused(device::lone::BAD_STATE, device);
+    let r = device::lone::access_refused(outcome::BAD_STATE, device);
     put_access(answer, r);
     r.refusal
 }
@@ -194,7 +194,7 @@ pub extern "C" fn runnelopal_access(
 #[no_mangle]
 pub extern "C" fn runnelopal_event(state: &mut [u8], number: u32, answer: &mut [u64]) -> u32
     ensures { λ r. ⌜ r ≡ savedEvent (now (state .entry)) number .refusal ⌝ }
-    ensures { λ _. ⌜ now (state .exit) ≡ kept (savedEvent (now (state .entry)) number .refusal) (savedEvent (now (state .entry)) number .device) (now (state .entry)) ⌝ }
+    ensures { λ _. ⌜ now (state .exit) ≡ savedUnlessRefused (savedEvent (now (state .entry)) number .refusal) (savedEvent (now (state .entry)) number .device) (now (state .entry)) ⌝ }
     ensures { λ _. ⌜ now (answer .exit) ≡ numbered 0 (eventNumbers (savedEvent (now (state .entry)) number)) (now (answer .entry)) ⌝ }
 {
     let loaded = state::load(state);
@@ -202,11 +202,11 @@ pub extern "C" fn runnelopal_event(state: &mut [u8], number: u32, answer: &mut [
     if loaded.valid {
         let r = device.lone_event(number);
         let next = r.device;
-        keep(state, r.refusal, next);
+        save_unless_refused(state, r.refusal, next);
         put_event(answer, r);
         return r.refusal;
     }
-    let r = device::lone::event_refused(device::lone::BAD_STATE, device);
+    let r = device::lone::event_refused(outcome::BAD_STATE, device);
     put_event(answer, r);
     r.refusal
 }

@@ -9,11 +9,11 @@ use lib.ListN.{length, set, length-set}
 use Rattle.lists.specs.Stack.{stackOf}
 use Rattle.lists.proofs.Stack.{stack-push, stack-set-top, stack-top}
 use Rattle.script.specs.Refusals.{misplaced, outer}
-use Rattle.script.specs.Scan.{Kept}
+use Rattle.script.specs.Scan.{OpenArray}
 
 -- a block opened inside fewer than 16 is kept
-pub opens : (blocks : List ℕ) (depth block : ℕ) → Kept blocks depth → depth < 16
-    → Kept (set blocks depth block) (depth + 1) × (stackOf (depth + 1) (set blocks depth block) ≡ block ∷ stackOf depth blocks)
+pub opens : (blocks : List ℕ) (depth block : ℕ) → OpenArray blocks depth → depth < 16
+    → OpenArray (set blocks depth block) (depth + 1) × (stackOf (depth + 1) (set blocks depth block) ≡ block ∷ stackOf depth blocks)
 opens blocks depth block k h = (
   record { deep = omega arith; sized = simp length-set (k .sized) },
   stack-push depth blocks block (omega (arith, k .sized)),

@@ -12,16 +12,18 @@ use Rattle.lists.proofs.Tests.{none-from}
 use Rattle.mask.proofs.Every.{both, neither}
 use Rattle.record.specs.declared.Record.{Record}
 use Rattle.width.specs.Width.{fitsWidth, isWidth}
-use Rattle.script.specs.Nested.{Body, done, write, read, delay, repeat, if, ifElse, Reading, top, ended, elsed, broken, before, repeated, elseTested, tested, readingOf, bodyIn, scriptRecord, elseRecord, endRecord, flat}
+use Rattle.script.specs.Nested.{Body, done, write, read, delay, repeat, if, ifElse, Reading, top, closedByEnd, closedByElse, broken, before, readRepeat, readElse, readIf, readingOf, bodyIn, scriptRecord, elseRecord, endRecord, flat}
 use Rattle.script.specs.Fields.{kindFields}
 use Rattle.script.specs.Records.{recordCount, recordsOf}
-use Rattle.script.specs.Refusals.{Refusal, badFields, badKind, badLength, firstFault, goodFields, misplaced, openAfter, recordFault, refusal, repeatsIn, scriptRefusal, tooDeep, tooManyWords, wordsIn, wrongMark}
+use Rattle.script.specs.Refusals.{badFields, badKind, badLength, firstFault, goodFields, misplaced, openAfter, recordFault, repeatsIn, scriptRefusal, tooDeep, tooManyWords, wordsIn, wrongMark}
+use Rattle.outcome.specs.Refusal.{refusal}
+use Rattle.outcome.specs.declared.Refusal.{Refusal}
 
 -- the records of all that is read
 abbrev pub unread : Reading → List Record
 unread (top b) = flat b []
-unread (ended b n) = flat b (endRecord ∷ unread n)
-unread (elsed b n) = flat b (elseRecord ∷ unread n)
+unread (closedByEnd b n) = flat b (endRecord ∷ unread n)
+unread (closedByElse b n) = flat b (elseRecord ∷ unread n)
 unread broken = []
 
 -- ---- the open blocks: a repeat, an if still without an else, an if with its else
@@ -175,9 +177,9 @@ pub data Good : ℕ → Body → Type 0 where
 data Closes : List Block → Reading → Type 0 where
   by-top : {b : Body} → Good 0 b → Closes [] (top b)
   by-end : {b : Body} {o : Block} {bs : List Block} {n : Reading} → Good (repeatsIn (numbers (o ∷ bs))) b → Closes bs n
-      → Closes (o ∷ bs) (ended b n)
+      → Closes (o ∷ bs) (closedByEnd b n)
   by-else : {b : Body} {bs : List Block} {n : Reading} → Good (repeatsIn (numbers bs)) b → Closes (withElse ∷ bs) n
-      → Closes (unelsed ∷ bs) (elsed b n)
+      → Closes (unelsed ∷ bs) (closedByElse b n)
 
 -- a record put in front of a reading is put in front of its first body, and of its records
 in-front : (f : Body → Body) {bs : List Block} {n : Reading}
@@ -209,7 +211,7 @@ front f r e g h = record {
 
 module _ (v : ℕ) {bs : List Block} {rs : List Record} (hv : v ≤ 65535) (few : repeatsIn (numbers bs) < 8) where
   repeat-front : {n : Reading} → Closes (looped ∷ bs) n → rs ≡ unread n
-      → Reads bs (scriptRecord 4 0 0 v ∷ rs) (repeated v n)
+      → Reads bs (scriptRecord 4 0 0 v ∷ rs) (readRepeat v n)
   repeat-front (by-end {b = b} g c) e = record {
     closes = in-front (repeat v b) (λ rest k. good-repeat hv few g k) c;
     same = ap (λ (l : List Record). scriptRecord 4 0 0 v ∷ l) e
@@ -218,7 +220,7 @@ module _ (v : ℕ) {bs : List Block} {rs : List Record} (hv : v ≤ 65535) (few 
 
 module _ (p w v : ℕ) {bs : List Block} {rs : List Record} (hw : isWidth w ≡ true) (hv : fitsWidth w v ≡ true) where
   else-front : {n : Reading} (b : Body) → Good (repeatsIn (numbers bs)) b → Closes (withElse ∷ bs) n
-      → rs ≡ flat b (elseRecord ∷ unread n) → Reads bs (scriptRecord 5 w p v ∷ rs) (elseTested p w v b n)
+      → rs ≡ flat b (elseRecord ∷ unread n) → Reads bs (scriptRecord 5 w p v ∷ rs) (readElse p w v b n)
   else-front b g (by-end {b = c} g2 k) e = record {
     closes = in-front (ifElse p w v b c) (λ rest h. good-ifElse hw hv g g2 h) k;
     same = ap (λ (l : List Record). scriptRecord 5 w p v ∷ l) e
@@ -228,7 +230,7 @@ module _ (p w v : ℕ) {bs : List Block} {rs : List Record} (hw : isWidth w ≡ 
   }
 
   test-front : {n : Reading} → Closes (unelsed ∷ bs) n → rs ≡ unread n
-      → Reads bs (scriptRecord 5 w p v ∷ rs) (tested p w v n)
+      → Reads bs (scriptRecord 5 w p v ∷ rs) (readIf p w v n)
   test-front (by-end {b = b} g c) e = record {
     closes = in-front (if p w v b) (λ rest k. good-if hw hv g k) c;
     same = ap (λ (l : List Record). scriptRecord 5 w p v ∷ l) e

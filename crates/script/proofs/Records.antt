@@ -21,8 +21,8 @@ from-here bytes count k h =
     let e : count - k ≡ suc (count - suc k) = omega arith in
     rw (e, add-one k)
 
-pub behind-last : (bytes : List ℕ) (count k : ℕ) → count ≤ k → recordsFrom (count - k) k bytes ≡ []
-behind-last bytes count k h =
+pub after-last : (bytes : List ℕ) (count k : ℕ) → count ≤ k → recordsFrom (count - k) k bytes ≡ []
+after-last bytes count k h =
     let e : count - k ≡ 0 = omega arith in
     rw e
 

@@ -1,5 +1,5 @@
 -- The scan's loop. A record's fault is that of its shape, of its place, or of the repeats around it, in this order. Before each
--- record the fault and the words of the whole script are those of the records left (`Going`): a fault ends the scan with its
+-- record the fault and the words of the whole script are those of the records left (`ScanInvariant`): a fault ends the scan with its
 -- number and place, a good record leaves the same for the next, and behind the last one only a block still open is a fault.
 -- Assumes nothing.
 use Prim.Native.Nat.{ℕ, zero, suc, _+_, _-_, _*_, _≤_, _<_}
@@ -17,29 +17,12 @@ use Rattle.lists.proofs.Tests.{none-from}
 use Rattle.record.specs.Record.{recordAt, recordSize}
 use Rattle.record.specs.declared.Record.{Record}
 use Rattle.script.specs.Records.{recordCount, recordsFrom, recordsOf}
-use Rattle.script.specs.Refusals.{
-  badFields,
-  badKind,
-  firstFault,
-  givesWord,
-  innermost,
-  misplaced,
-  openAfter,
-  recordFault,
-  refusal,
-  repeatsIn,
-  tooDeep,
-  scriptRefusal,
-  tooManyWords,
-  wordCount,
-  wordsIn,
-  wrongMark,
-  badLength,
-  Refusal,
-}
-use Rattle.script.specs.Scan.{Kept, full, placeFault, recordsScan, refusedAt, scriptScan, shapeFault}
-use Rattle.script.specs.declared.Found.{Found}
-use Rattle.script.proofs.Records.{behind-last, from-here}
+use Rattle.script.specs.Refusals.{badFields, badKind, firstFault, emitsWord, innermost, misplaced, openAfter, recordFault, repeatsIn, tooDeep, scriptRefusal, tooManyWords, wordCount, wordsIn, wrongMark, badLength}
+use Rattle.outcome.specs.Refusal.{refusal}
+use Rattle.outcome.specs.declared.Refusal.{Refusal}
+use Rattle.script.specs.Scan.{OpenArray, full, placeFault, recordsScan, refusalAt, scriptScan, shapeFault}
+use Rattle.script.specs.declared.ScanResult.{ScanResult}
+use Rattle.script.proofs.Records.{after-last, from-here}
 
 -- ---- a record's fault, from what it shows by itself and from the open blocks
 pub fault-parts : (blocks : List ℕ) (r : Record) →
@@ -143,8 +126,8 @@ walks kind d b h = pick (eqb kind 4) refl h
     pick false e l = absurd (omega arith)
 
 -- ---- what holds before record k of so many
-pub record Going (bytes : List ℕ) (count : ℕ) (blocks : List ℕ) (depth words number k : ℕ) : Type 0 where
-  pub kept : Kept blocks depth
+pub record ScanInvariant (bytes : List ℕ) (count : ℕ) (blocks : List ℕ) (depth words number k : ℕ) : Type 0 where
+  pub kept : OpenArray blocks depth
   pub inside : k ≤ count
   pub clear : number ≡ 0
   pub fault :
@@ -155,7 +138,7 @@ pub record Going (bytes : List ℕ) (count : ℕ) (blocks : List ℕ) (depth wor
   pub few : words ≤ suc k
 
 -- before the first record
-pub starts : (bytes : List ℕ) (count : ℕ) (blocks : List ℕ) → length blocks ≡ 16 → Going bytes count blocks 0 1 0 0
+pub starts : (bytes : List ℕ) (count : ℕ) (blocks : List ℕ) → length blocks ≡ 16 → ScanInvariant bytes count blocks 0 1 0 0
 starts bytes count blocks l =
     let z : count - 0 ≡ count = omega arith in
     record {
@@ -177,11 +160,11 @@ at-most-one false = omega arith
 
 -- ---- what the scan answers, and how a record leads to the next
 pub scan-faulted : (bytes : List ℕ) (count number k : ℕ) → count ≡ recordCount bytes
-    → firstFault [] 0 (recordsFrom count 0 bytes) ≡ refusal number k → (number ≡ 0 → ⊥) → refusedAt number k ≡ recordsScan bytes
+    → firstFault [] 0 (recordsFrom count 0 bytes) ≡ refusal number k → (number ≡ 0 → ⊥) → refusalAt number k ≡ recordsScan bytes
 unfolding recordsScan recordsOf
 scan-faulted bytes count number k e f z = rw (rw e at f, ne-eqb number 0 z)
 
-module _ (bytes : List ℕ) (count : ℕ) (blocks : List ℕ) (depth words number k : ℕ) (g : Going bytes count blocks depth words number k) where
+module _ (bytes : List ℕ) (count : ℕ) (blocks : List ℕ) (depth words number k : ℕ) (g : ScanInvariant bytes count blocks depth words number k) where
   -- a fault ends the scan with its number and place
   pub faulty : (r : Record) (n : ℕ) → k < count → r ≡ recordAt bytes (recordSize * k) → recordFault (stackOf depth blocks) r ≡ n
       → (n ≡ 0 → ⊥) → firstFault [] 0 (recordsFrom count 0 bytes) ≡ refusal n k
@@ -189,9 +172,9 @@ module _ (bytes : List ℕ) (count : ℕ) (blocks : List ℕ) (depth words numbe
       g .fault ∙ ap (firstFault (stackOf depth blocks) k) (from-here bytes count k h) ∙ (rw (rw q at e, ne-eqb n 0 z))
 
   -- a good record
-  pub further : (r : Record) (later : List ℕ) (next clear : ℕ) → k < count → r ≡ recordAt bytes (recordSize * k) → Kept later next
+  pub further : (r : Record) (later : List ℕ) (next clear : ℕ) → k < count → r ≡ recordAt bytes (recordSize * k) → OpenArray later next
       → clear ≡ 0 → recordFault (stackOf depth blocks) r ≡ 0 → stackOf next later ≡ openAfter (stackOf depth blocks) (r .kind)
-      → Going bytes count later next (words + cond (givesWord (stackOf depth blocks) (r .kind)) 1 0) clear (k + 1)
+      → ScanInvariant bytes count later next (words + cond (emitsWord (stackOf depth blocks) (r .kind)) 1 0) clear (k + 1)
   further r later next clear h q kp c z e = record {
     kept = kp;
     inside = omega arith;
@@ -199,27 +182,27 @@ module _ (bytes : List ℕ) (count : ℕ) (blocks : List ℕ) (depth words numbe
     fault = g .fault ∙ ap (firstFault (stackOf depth blocks) k) here ∙ (rw (z, add-one k, e));
     given =
         rw e
-        (counted (givesWord (stackOf depth blocks) (r .kind)) words
+        (counted (emitsWord (stackOf depth blocks) (r .kind)) words
         (wordCount (openAfter (stackOf depth blocks) (r .kind)) (recordsFrom (count - (k + 1)) (k + 1) bytes)) _
         (ap (λ (l : List Record). words + wordCount (stackOf depth blocks) l) (sym here) ∙ g .given));
-    few = omega (arith, g .few, at-most-one (givesWord (stackOf depth blocks) (r .kind)));
+    few = omega (arith, g .few, at-most-one (emitsWord (stackOf depth blocks) (r .kind)));
   }
     where
       here : recordsFrom (count - k) k bytes ≡ r ∷ recordsFrom (count - (k + 1)) (k + 1) bytes
       here = rw (from-here bytes count k h, q)
 
   pub scan-unended : count ≤ k → count ≡ recordCount bytes → (innermost (stackOf depth blocks) ≡ 0 → ⊥)
-      → refusedAt 7 k ≡ recordsScan bytes
+      → refusalAt 7 k ≡ recordsScan bytes
   scan-unended h e z =
-      let f = rw (behind-last bytes count k h) at (g .fault) in
+      let f = rw (after-last bytes count k h) at (g .fault) in
       scan-faulted bytes count 7 k e (f ∙ (rw (ne-eqb (innermost (stackOf depth blocks)) 0 z))) (λ q. omega arith)
 
   pub scan-done : count ≤ k → count ≡ recordCount bytes → innermost (stackOf depth blocks) ≡ 0
-      → _≡_ {A = Found} (record { number = 0; place = 0; words = words }) (recordsScan bytes)
+      → _≡_ {A = ScanResult} (record { number = 0; place = 0; words = words }) (recordsScan bytes)
   unfolding recordsScan recordsOf
   scan-done h e z =
-      let f = rw (behind-last bytes count k h) at (g .fault) in
-      let n = rw (behind-last bytes count k h) at (g .given) in
+      let f = rw (after-last bytes count k h) at (g .fault) in
+      let n = rw (after-last bytes count k h) at (g .given) in
       let w : words ≡ wordCount [] (recordsFrom count 0 bytes) = omega arith in
       rw (w, ← e, f, z)
 
@@ -242,18 +225,18 @@ clean (r ∷ rs) blocks place h =
 
 -- ---- refusals 1 and 8 around the records' own
 pub scan-length : (bytes : List ℕ) → badLength bytes ≡ true
-    → refusedAt 1 0 ≡ scriptScan bytes
+    → refusalAt 1 0 ≡ scriptScan bytes
 unfolding scriptScan scriptRefusal
 scan-length bytes h = rw h
 
-module _ (bytes : List ℕ) (s : Found) (e : s ≡ recordsScan bytes) (h : badLength bytes ≡ false) where
+module _ (bytes : List ℕ) (s : ScanResult) (e : s ≡ recordsScan bytes) (h : badLength bytes ≡ false) where
   number-is : s .number ≡ firstFault [] 0 (recordsOf bytes) .number
   unfolding recordsScan
-  number-is = ap (λ (x : Found). x .number) e
+  number-is = ap (λ (x : ScanResult). x .number) e
 
   pub words-are : s .number ≡ 0 → s .words ≡ wordsIn bytes
   unfolding recordsScan
-  words-are z = ap (λ (x : Found). x .words) e ∙ (rw (sym number-is ∙ z))
+  words-are z = ap (λ (x : ScanResult). x .words) e ∙ (rw (sym number-is ∙ z))
 
   pub scan-refused : (s .number ≡ 0 → ⊥) → s ≡ scriptScan bytes
   unfolding recordsScan scriptScan scriptRefusal
@@ -262,7 +245,7 @@ module _ (bytes : List ℕ) (s : Found) (e : s ≡ recordsScan bytes) (h : badLe
       e ∙ (rw (h, n, n))
 
   pub scan-long : s .number ≡ 0 → 1024 < s .words
-      → refusedAt 8 (recordCount bytes) ≡ scriptScan bytes
+      → refusalAt 8 (recordCount bytes) ≡ scriptScan bytes
   unfolding scriptScan scriptRefusal
   scan-long z l =
       let w : tooManyWords bytes ≡ true = rw (words-are z) at (lt-ltb 1024 (s .words) l) in

@@ -20,43 +20,43 @@ pub data Body : Type 0 where
 -- before that place, and what follows it
 pub data Reading : Type 0 where
   top : Body → Reading
-  ended : Body → Reading → Reading
-  elsed : Body → Reading → Reading
+  closedByEnd : Body → Reading → Reading
+  closedByElse : Body → Reading → Reading
   broken : Reading
 
 -- a record put in front of what is read behind it
 abbrev pub before : (Body → Body) → Reading → Reading
 before f (top b) = top (f b)
-before f (ended b n) = ended (f b) n
-before f (elsed b n) = elsed (f b) n
+before f (closedByEnd b n) = closedByEnd (f b) n
+before f (closedByElse b n) = closedByElse (f b) n
 before f broken = broken
 
-abbrev pub repeated : ℕ → Reading → Reading
-repeated times (ended b n) = before (repeat times b) n
-repeated times (top b) = broken
-repeated times (elsed b n) = broken
-repeated times broken = broken
+abbrev pub readRepeat : ℕ → Reading → Reading
+readRepeat times (closedByEnd b n) = before (repeat times b) n
+readRepeat times (top b) = broken
+readRepeat times (closedByElse b n) = broken
+readRepeat times broken = broken
 
-abbrev pub elseTested : ℕ → ℕ → ℕ → Body → Reading → Reading
-elseTested port width mask b (ended c n) = before (ifElse port width mask b c) n
-elseTested port width mask b (top c) = broken
-elseTested port width mask b (elsed c n) = broken
-elseTested port width mask b broken = broken
+abbrev pub readElse : ℕ → ℕ → ℕ → Body → Reading → Reading
+readElse port width mask b (closedByEnd c n) = before (ifElse port width mask b c) n
+readElse port width mask b (top c) = broken
+readElse port width mask b (closedByElse c n) = broken
+readElse port width mask b broken = broken
 
-abbrev pub tested : ℕ → ℕ → ℕ → Reading → Reading
-tested port width mask (ended b n) = before (if port width mask b) n
-tested port width mask (elsed b n) = elseTested port width mask b n
-tested port width mask (top b) = broken
-tested port width mask broken = broken
+abbrev pub readIf : ℕ → ℕ → ℕ → Reading → Reading
+readIf port width mask (closedByEnd b n) = before (if port width mask b) n
+readIf port width mask (closedByElse b n) = readElse port width mask b n
+readIf port width mask (top b) = broken
+readIf port width mask broken = broken
 
 abbrev pub readRecord : Record → Reading → Reading
 readRecord r n =
     cond (eqb (r .kind) 1) (before (write (r .port) (r .width) (r .value)) n)
     (cond (eqb (r .kind) 2) (before (read (r .port) (r .width)) n)
     (cond (eqb (r .kind) 3) (before (delay (r .value)) n)
-    (cond (eqb (r .kind) 4) (repeated (r .value) n)
-    (cond (eqb (r .kind) 5) (tested (r .port) (r .width) (r .value) n)
-    (cond (eqb (r .kind) 6) (elsed done n) (cond (eqb (r .kind) 7) (ended done n) broken))))))
+    (cond (eqb (r .kind) 4) (readRepeat (r .value) n)
+    (cond (eqb (r .kind) 5) (readIf (r .port) (r .width) (r .value) n)
+    (cond (eqb (r .kind) 6) (closedByElse done n) (cond (eqb (r .kind) 7) (closedByEnd done n) broken))))))
 
 abbrev pub readingOf : List Record → Reading
 readingOf [] = top done
@@ -65,8 +65,8 @@ readingOf (r ∷ rs) = readRecord r (readingOf rs)
 -- the body of a script that is accepted; the other readings are of lists that are not
 abbrev pub bodyIn : Reading → Body
 bodyIn (top b) = b
-bodyIn (ended b n) = done
-bodyIn (elsed b n) = done
+bodyIn (closedByEnd b n) = done
+bodyIn (closedByElse b n) = done
 bodyIn broken = done
 
 unfoldable pub scriptBody : List ℕ → Body

@@ -5,14 +5,17 @@ use mathlib.Core.List.{List, [], _∷_}
 use lib.Dec.{eqb, leb, ltb}
 use lib.ListN.{length}
 use Rattle.lists.specs.Tests.{firstFrom}
-use Rattle.record.specs.Record.{recordSize}
+use Rattle.outcome.specs.Number as number
+use Rattle.outcome.specs.Refusal.{refusal}
+use Rattle.outcome.specs.declared.Refusal.{Refusal}
+use Rattle.record.specs.Record.{mostRecords, recordSize}
 use Rattle.record.specs.declared.Record.{Record}
 use Rattle.script.specs.Fields.{kindFields}
 use Rattle.script.specs.Records.{recordCount, recordsOf}
 
 -- 1: "script length no multiple of 12, or over 1,024 records (0)"
 abbrev pub badLength : List ℕ → Bool
-badLength bytes = not (eqb (length bytes % recordSize) 0) || ltb 1024 (recordCount bytes)
+badLength bytes = not (eqb (length bytes % recordSize) 0) || ltb mostRecords (recordCount bytes)
 
 -- 2: "wrong mark (record)"; "Script mark 5A A5"
 abbrev pub wrongMark : Record → Bool
@@ -53,39 +56,37 @@ abbrev pub misplaced : List ℕ → ℕ → Bool
 misplaced blocks kind =
     (eqb kind 6 && not (eqb (innermost blocks) 5)) || (eqb kind 7 && eqb (innermost blocks) 0)
 
+abbrev pub mostBlocks : ℕ
+mostBlocks = 16
+
+abbrev pub mostRepeats : ℕ
+mostRepeats = 8
+
 -- 6: "a block opened inside 16, or a repeat inside 8 repeats"
 abbrev pub tooDeep : List ℕ → ℕ → Bool
 tooDeep blocks kind =
-    ((eqb kind 4 || eqb kind 5) && leb 16 (length blocks)) || (eqb kind 4 && leb 8 (repeatsIn blocks))
+    ((eqb kind 4 || eqb kind 5) && leb mostBlocks (length blocks)) || (eqb kind 4 && leb mostRepeats (repeatsIn blocks))
 
 -- the least number that a record meets, or 0
 unfoldable pub recordFault : List ℕ → Record → ℕ
 recordFault blocks r =
-    firstFrom 2 (wrongMark r ∷ badKind r ∷ badFields r ∷ misplaced blocks (r .kind) ∷ tooDeep blocks (r .kind) ∷ [])
-
--- a refusal's number and place; number 0 is none
-pub record Refusal : Type 0 where
-  pub number : ℕ
-  pub place : ℕ
-
-abbrev pub refusal : ℕ → ℕ → Refusal
-refusal n p = record { number = n; place = p }
+    firstFrom number.wrongMark (wrongMark r ∷ badKind r ∷ badFields r ∷ misplaced blocks (r .kind) ∷ tooDeep blocks (r .kind) ∷ [])
 
 -- "the first record with a fault, least number; then 7": "a block still open (record count)"
 abbrev pub firstFault : List ℕ → ℕ → List Record → Refusal
-firstFault blocks place [] = cond (eqb (innermost blocks) 0) (refusal 0 0) (refusal 7 place)
+firstFault blocks place [] = cond (eqb (innermost blocks) 0) (refusal 0 0) (refusal number.stillOpen place)
 firstFault blocks place (r ∷ rs) =
     cond (eqb (recordFault blocks r) 0) (firstFault (openAfter blocks (r .kind)) (suc place) rs)
     (refusal (recordFault blocks r) place)
 
 -- "Records give one word in order, except that the end of an if gives none; a halt follows."
-abbrev pub givesWord : List ℕ → ℕ → Bool
-givesWord blocks kind = not (eqb kind 7) || eqb (innermost blocks) 4
+abbrev pub emitsWord : List ℕ → ℕ → Bool
+emitsWord blocks kind = not (eqb kind 7) || eqb (innermost blocks) 4
 
 abbrev pub wordCount : List ℕ → List Record → ℕ
 wordCount blocks [] = 1
 wordCount blocks (r ∷ rs) =
-    cond (givesWord blocks (r .kind)) (suc (wordCount (openAfter blocks (r .kind)) rs))
+    cond (emitsWord blocks (r .kind)) (suc (wordCount (openAfter blocks (r .kind)) rs))
     (wordCount (openAfter blocks (r .kind)) rs)
 
 abbrev pub wordsIn : List ℕ → ℕ
@@ -93,12 +94,12 @@ wordsIn bytes = wordCount [] (recordsOf bytes)
 
 -- 8: "over 1,024 words (record count)"
 abbrev pub tooManyWords : List ℕ → Bool
-tooManyWords bytes = ltb 1024 (wordsIn bytes)
+tooManyWords bytes = ltb mostRecords (wordsIn bytes)
 
 -- "Compiler: 1; then the first record with a fault, least number; then 7, 8 [..]"
 unfoldable pub scriptRefusal : List ℕ → Refusal
 scriptRefusal bytes =
-    cond (badLength bytes) (refusal 1 0)
+    cond (badLength bytes) (refusal number.badLength 0)
     (cond (eqb (firstFault [] 0 (recordsOf bytes) .number) 0)
-    (cond (tooManyWords bytes) (refusal 8 (recordCount bytes)) (refusal 0 0))
+    (cond (tooManyWords bytes) (refusal number.tooManyWords (recordCount bytes)) (refusal 0 0))
     (firstFault [] 0 (recordsOf bytes)))

@@ -8,37 +8,39 @@ use lib.ListN.{length}
 use Rattle.lists.specs.Tests.{firstFrom}
 use Rattle.record.specs.declared.Record.{Record}
 use Rattle.script.specs.Records.{recordsOf}
-use Rattle.script.specs.Refusals.{badFields, badKind, firstFault, misplaced, scriptRefusal, wordsIn, wrongMark, Refusal}
-use Rattle.script.specs.declared.Found.{Found}
+use Rattle.script.specs.Refusals.{badFields, badKind, firstFault, misplaced, mostBlocks, scriptRefusal, wordsIn, wrongMark}
+use Rattle.outcome.specs.Number as number
+use Rattle.outcome.specs.declared.Refusal.{Refusal}
+use Rattle.script.specs.declared.ScanResult.{ScanResult}
 
 -- what a record shows by itself: 2, 3, 4, or 0
 unfoldable pub shapeFault : Record → ℕ
-shapeFault r = firstFrom 2 (wrongMark r ∷ badKind r ∷ badFields r ∷ [])
+shapeFault r = firstFrom number.wrongMark (wrongMark r ∷ badKind r ∷ badFields r ∷ [])
 
 -- there is room for 16 blocks, and no more are open
-pub record Kept (blocks : List ℕ) (depth : ℕ) : Type 0 where
-  pub deep : depth ≤ 16
-  pub sized : length blocks ≡ 16
+pub record OpenArray (blocks : List ℕ) (depth : ℕ) : Type 0 where
+  pub deep : depth ≤ mostBlocks
+  pub sized : length blocks ≡ mostBlocks
 
 -- a block opened inside 16
 abbrev pub full : (depth kind : ℕ) → Bool
-full depth kind = (eqb kind 4 || eqb kind 5) && leb 16 depth
+full depth kind = (eqb kind 4 || eqb kind 5) && leb mostBlocks depth
 
 -- what a record shows by its place, but for the repeats around it: 5, 6, or 0
 unfoldable pub placeFault : List ℕ → ℕ → ℕ
-placeFault blocks kind = firstFrom 5 (misplaced blocks kind ∷ full (length blocks) kind ∷ [])
+placeFault blocks kind = firstFrom number.misplaced (misplaced blocks kind ∷ full (length blocks) kind ∷ [])
 
 -- a refusal has no words
-abbrev pub scanned : Refusal → ℕ → Found
-scanned f n = record { number = f .number; place = f .place; words = cond (eqb (f .number) 0) n 0 }
+abbrev pub scanResult : Refusal → ℕ → ScanResult
+scanResult f n = record { number = f .number; place = f .place; words = cond (eqb (f .number) 0) n 0 }
 
-abbrev pub refusedAt : (number place : ℕ) → Found
-refusedAt n p = record { number = n; place = p; words = 0 }
+abbrev pub refusalAt : (number place : ℕ) → ScanResult
+refusalAt n p = record { number = n; place = p; words = 0 }
 
 -- refusals 2 to 7 of the records, or their words
-unfoldable pub recordsScan : List ℕ → Found
-recordsScan bytes = scanned (firstFault [] 0 (recordsOf bytes)) (wordsIn bytes)
+unfoldable pub recordsScan : List ℕ → ScanResult
+recordsScan bytes = scanResult (firstFault [] 0 (recordsOf bytes)) (wordsIn bytes)
 
 -- refusals 1 to 8, or the words
-unfoldable pub scriptScan : List ℕ → Found
-scriptScan bytes = scanned (scriptRefusal bytes) (wordsIn bytes)
+unfoldable pub scriptScan : List ℕ → ScanResult
+scriptScan bytes = scanResult (scriptRefusal bytes) (wordsIn bytes)

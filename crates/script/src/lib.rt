@@ -6,21 +6,21 @@ ghost use Prim.Native.Nat.{_≤_, _/_};
 ghost use lib.Dec.{eqb};
 ghost use lib.ListN.{length};
 ghost use Rattle.lists.specs.Stack.{stackOf};
-ghost use Rattle.record.specs.Record.{recordSize};
+ghost use Rattle.record.specs.Record.{mostRecords, recordSize};
 ghost use Rattle.script.specs.Fields.{valueFields, readFields, countFields, noFields, kindFields};
-ghost use Rattle.script.specs.Refusals.{badLength, goodFields, innermost, misplaced, openAfter, givesWord};
+ghost use Rattle.script.specs.Refusals.{badLength, goodFields, innermost, misplaced, mostBlocks, openAfter, emitsWord};
 ghost use Rattle.script.specs.Scan.{
-  Kept,
+  OpenArray,
   full,
   placeFault,
   recordsScan,
-  refusedAt,
+  refusalAt,
   scriptScan,
   shapeFault,
 };
 
 // What a scan finds: a refusal with its place, or number 0 and how many words the script gives.
-pub struct Found {
+pub struct ScanResult {
     pub number: u32,
     pub place: u32,
     pub words: u32,
@@ -47,8 +47,12 @@ const OPEN_IF: u8 = 5;
 
 const OPEN_ELSE: u8 = 6;
 
-// No block opens inside this many.
-const MOST_BLOCKS: usize = 16;
+// At most this many blocks are open at once, and at most this many of them are repeats.
+pub const MOST_BLOCKS: usize = 16;
+
+const MOST_REPEATS: u32 = 8;
+
+const MOST_WORDS: u32 = Record::MOST as u32;
 
 // The fields that a kind uses, without the target.
 pub fn value_fields(r: Record) -> bool
@@ -124,25 +128,25 @@ fn shape_fault(r: Record) -> u32
     ensures { λ n. ⌜ n ≡ shapeFault r ⌝ }
 {
     if r.mark != Record::SCRIPT_MARK {
-        return 2;
+        return outcome::WRONG_MARK;
     }
-    if r.kind < 1 {
-        return 3;
+    if r.kind < WRITE {
+        return outcome::BAD_KIND;
     }
-    if 7 < r.kind {
-        return 3;
+    if END < r.kind {
+        return outcome::BAD_KIND;
     }
     if good_fields(r) {
         return 0;
     }
-    4
+    outcome::BAD_FIELD
 }
 
 // ---- the open blocks: the first `depth` of an array, innermost last
 
 // The innermost open block, or 0.
-fn innermost(blocks: &[u8; 16], depth: usize) -> u8
-    requires { ⌜ depth ≤ 16 ⌝ }
+fn innermost(blocks: &[u8; MOST_BLOCKS], depth: usize) -> u8
+    requires { ⌜ depth ≤ mostBlocks ⌝ }
     ensures { λ r. ⌜ r ≡ innermost (stackOf depth (now (blocks .entry))) ⌝ }
 {
     if depth == 0 {
@@ -153,8 +157,8 @@ fn innermost(blocks: &[u8; 16], depth: usize) -> u8
 }
 
 // An else that is not in an if still without one, or an end with no open block.
-fn is_misplaced(blocks: &[u8; 16], depth: usize, kind: u32) -> bool
-    requires { ⌜ depth ≤ 16 ⌝ }
+fn is_misplaced(blocks: &[u8; MOST_BLOCKS], depth: usize, kind: u32) -> bool
+    requires { ⌜ depth ≤ mostBlocks ⌝ }
     ensures { λ r. ⌜ r ≡ misplaced (stackOf depth (now (blocks .entry))) kind ⌝ }
 {
     let innermost = innermost(blocks, depth);
@@ -181,15 +185,15 @@ fn is_full(depth: usize, kind: u32) -> bool
 }
 
 // What a record shows by its place, but for the repeats around it: 5, 6, or 0.
-fn place_fault(blocks: &[u8; 16], depth: usize, kind: u32) -> u32
-    requires { ⌜ depth ≤ 16 ⌝ }
+fn place_fault(blocks: &[u8; MOST_BLOCKS], depth: usize, kind: u32) -> u32
+    requires { ⌜ depth ≤ mostBlocks ⌝ }
     ensures { λ r. ⌜ r ≡ placeFault (stackOf depth (now (blocks .entry))) kind ⌝ }
 {
     if is_misplaced(blocks, depth, kind) {
-        return 5;
+        return outcome::MISPLACED;
     }
     if is_full(depth, kind) {
-        return 6;
+        return outcome::TOO_DEEP;
     }
     0
 }
@@ -215,9 +219,9 @@ fn is_repeat(block: u8) -> u32
 }
 
 // Does a record of this kind give a word? The end of an if gives none.
-fn gives(blocks: &[u8; 16], depth: usize, kind: u32) -> u32
-    requires { ⌜ depth ≤ 16 ⌝ }
-    ensures { λ r. ⌜ r ≡ cond (givesWord (stackOf depth (now (blocks .entry))) kind) 1 0 ⌝ }
+fn emits_word(blocks: &[u8; MOST_BLOCKS], depth: usize, kind: u32) -> u32
+    requires { ⌜ depth ≤ mostBlocks ⌝ }
+    ensures { λ r. ⌜ r ≡ cond (emitsWord (stackOf depth (now (blocks .entry))) kind) 1 0 ⌝ }
 {
     if kind != END {
         return 1;
@@ -226,10 +230,10 @@ fn gives(blocks: &[u8; 16], depth: usize, kind: u32) -> u32
 }
 
 // Opens, changes or closes a block as a record that is well placed asks; the depth behind it.
-fn after(blocks: &mut [u8; 16], depth: usize, kind: u32) -> usize
-    requires { ⌜ Kept (now blocks) depth ⌝ }
+fn update_blocks(blocks: &mut [u8; MOST_BLOCKS], depth: usize, kind: u32) -> usize
+    requires { ⌜ OpenArray (now blocks) depth ⌝ }
     requires { ⌜ placeFault (stackOf depth (now blocks)) kind ≡ 0 ⌝ }
-    ensures { λ r. ⌜ Kept (now (blocks .exit)) r × (stackOf r (now (blocks .exit)) ≡ openAfter (stackOf depth (now (blocks .entry))) kind) ⌝ }
+    ensures { λ r. ⌜ OpenArray (now (blocks .exit)) r × (stackOf r (now (blocks .exit)) ≡ openAfter (stackOf depth (now (blocks .entry))) kind) ⌝ }
 {
     if kind == REPEAT {
         blocks[depth] = OPEN_REPEAT;
@@ -252,11 +256,11 @@ fn after(blocks: &mut [u8; 16], depth: usize, kind: u32) -> usize
 // ---- the scan
 
 // A refusal has no words.
-fn refused(number: u32, place: usize) -> Found
-    requires { ⌜ place ≤ 1024 ⌝ }
-    ensures { λ r. ⌜ r ≡ refusedAt number place ⌝ }
+fn refusal_at(number: u32, place: usize) -> ScanResult
+    requires { ⌜ place ≤ mostRecords ⌝ }
+    ensures { λ r. ⌜ r ≡ refusalAt number place ⌝ }
 {
-    Found {
+    ScanResult {
         number,
         place: place as u32,
         words: 0,
@@ -264,11 +268,11 @@ fn refused(number: u32, place: usize) -> Found
 }
 
 // Refusals 2 to 7, or how many words the records give.
-fn scan_records(script: &[u8], count: usize) -> Found
-    requires { ⌜ (count ≤ 1024) × (count ≡ length (now script) / recordSize) ⌝ }
+fn scan_records(script: &[u8], count: usize) -> ScanResult
+    requires { ⌜ (count ≤ mostRecords) × (count ≡ length (now script) / recordSize) ⌝ }
     ensures { λ r. ⌜ r ≡ recordsScan (now (script .entry)) ⌝ }
 {
-    let mut blocks: [u8; 16] = [0; 16];
+    let mut blocks: [u8; MOST_BLOCKS] = [0; MOST_BLOCKS];
     let mut depth: usize = 0;
     let mut words: u32 = 1;
     let mut number: u32 = 0;
@@ -292,23 +296,23 @@ fn scan_records(script: &[u8], count: usize) -> Found
         let mut b: usize = 0;
         while b < walk {
             repeats = repeats + is_repeat(blocks[b]);
-            if repeats == 8 {
-                number = 6;
+            if repeats == MOST_REPEATS {
+                number = outcome::TOO_DEEP;
                 break 'scan;
             }
             b = b + 1;
         }
-        words = words + gives(&blocks, depth, kind);
-        depth = after(&mut blocks, depth, kind);
+        words = words + emits_word(&blocks, depth, kind);
+        depth = update_blocks(&mut blocks, depth, kind);
         k = k + 1;
     }
     if number != 0 {
-        return refused(number, k);
+        return refusal_at(number, k);
     }
     if innermost(&blocks, depth) != 0 {
-        return refused(7, k);
+        return refusal_at(outcome::STILL_OPEN, k);
     }
-    Found {
+    ScanResult {
         number: 0,
         place: 0,
         words,
@@ -322,23 +326,23 @@ fn bad_length(script: &[u8]) -> bool
     if script.len() % Record::SIZE != 0 {
         return true;
     }
-    1024 < script.len() / Record::SIZE
+    Record::MOST < script.len() / Record::SIZE
 }
 
 // Refusals 1 to 8, or how many words the script gives.
-pub fn scan(script: &[u8]) -> Found
+pub fn scan(script: &[u8]) -> ScanResult
     ensures { λ r. ⌜ r ≡ scriptScan (now (script .entry)) ⌝ }
 {
     if bad_length(script) {
-        return refused(1, 0);
+        return refusal_at(outcome::BAD_LENGTH, 0);
     }
     let count = script.len() / Record::SIZE;
     let s = scan_records(script, count);
     if s.number != 0 {
         return s;
     }
-    if 1024 < s.words {
-        return refused(8, count);
+    if MOST_WORDS < s.words {
+        return refusal_at(outcome::TOO_MANY_WORDS, count);
     }
     s
 }

@@ -14,7 +14,7 @@ use Rattle.device.specs.declared.AccessResult.{AccessResult}
 use Rattle.mask.specs.Mask.{hasBit}
 
 -- "Definitions list each write, read and test as one access with its whole answer."
-pub record Made : Type 0 where
+pub record AccessEntry : Type 0 where
   pub access : Access
   pub answer : Answer
   pub outputs : Outputs
@@ -24,20 +24,20 @@ pub record World : Type 0 where
   pub device : Device
   pub events : List ℕ
   pub logged : List ℕ
-  pub accesses : List Made
+  pub accesses : List AccessEntry
 
 -- nothing logged, no access made
 abbrev pub startWorld : Device → List ℕ → World
 startWorld d events = record { device = d; events = events; logged = []; accesses = [] }
 
 -- "Before each write, read or test the next event, if any, is applied."
-abbrev pub nextApplied : Device → List ℕ → Device
-nextApplied d [] = d
-nextApplied d (e ∷ es) = applyEvent d e
+abbrev pub afterNextEvent : Device → List ℕ → Device
+afterNextEvent d [] = d
+afterNextEvent d (e ∷ es) = applyEvent d e
 
-abbrev pub eventsBehind : List ℕ → List ℕ
-eventsBehind [] = []
-eventsBehind (e ∷ es) = es
+abbrev pub eventsAfter : List ℕ → List ℕ
+eventsAfter [] = []
+eventsAfter (e ∷ es) = es
 
 abbrev pub writeOf : (port width value : ℕ) → Access
 writeOf p w v = record { write = true; width = w; port = p; value = v }
@@ -47,42 +47,42 @@ abbrev pub readOf : (port width : ℕ) → Access
 readOf p w = record { write = false; width = w; port = p; value = 0 }
 
 abbrev pub answerTo : World → Access → AccessResult
-answerTo w x = deviceAccess (nextApplied (w .device) (w .events)) x
+answerTo w x = deviceAccess (afterNextEvent (w .device) (w .events)) x
 
-abbrev pub madeOf : Access → AccessResult → Made
-madeOf x r = record { access = x; answer = r .answer; outputs = outputsOf (r .device) }
+abbrev pub accessEntry : Access → AccessResult → AccessEntry
+accessEntry x r = record { access = x; answer = r .answer; outputs = outputsOf (r .device) }
 
 -- the world after an access that logs these values
-abbrev pub after : World → Access → List ℕ → World
-after w x values = record {
+abbrev pub afterAccess : World → Access → List ℕ → World
+afterAccess w x values = record {
   device = answerTo w x .device;
-  events = eventsBehind (w .events);
+  events = eventsAfter (w .events);
   logged = w .logged ++ values;
-  accesses = w .accesses ++ (madeOf x (answerTo w x) ∷ []);
+  accesses = w .accesses ++ (accessEntry x (answerTo w x) ∷ []);
 }
 
-unfoldable pub written : (port width value : ℕ) → World → World
-written p wd v w = after w (writeOf p wd v) []
+unfoldable pub afterWrite : (port width value : ℕ) → World → World
+afterWrite p wd v w = afterAccess w (writeOf p wd v) []
 
 -- at any status
 unfoldable pub valueRead : (port width : ℕ) → World → ℕ
 valueRead p wd w = answerTo w (readOf p wd) .answer .value
 
 -- "A read appends its value to the log, at any status"
-unfoldable pub readLogged : (port width : ℕ) → World → World
-readLogged p wd w = after w (readOf p wd) (valueRead p wd w ∷ [])
+unfoldable pub afterRead : (port width : ℕ) → World → World
+afterRead p wd w = afterAccess w (readOf p wd) (valueRead p wd w ∷ [])
 
 -- "a test uses its value likewise and logs nothing"
-unfoldable pub tested : (port width : ℕ) → World → World
-tested p wd w = after w (readOf p wd) []
+unfoldable pub afterTest : (port width : ℕ) → World → World
+afterTest p wd w = afterAccess w (readOf p wd) []
 
 -- "the value read and the mask in value share a one"
 unfoldable pub sharesOne : (port width mask : ℕ) → World → Bool
 sharesOne p wd m w = hasBit m (valueRead p wd w)
 
 -- "A delay is a tick event of its value and takes none from the list."
-unfoldable pub delayed : (ticks : ℕ) → World → World
-delayed n w = record {
+unfoldable pub afterDelay : (ticks : ℕ) → World → World
+afterDelay n w = record {
   device = applyEvent (w .device) (tickEvent n);
   events = w .events;
   logged = w .logged;

@@ -10,10 +10,9 @@ use lib.ListN.{length}
 use Rattle.device.specs.Device.{deviceInRange}
 use Rattle.device.specs.declared.Device.{Device}
 use Rattle.mask.proofs.Every.{and-left, and-right}
-use Rattle.script.specs.Refusals.{refusal}
+use Rattle.outcome.specs.Refusal.{refusal}
 use Rattle.sequencer.specs.Ends.{EndsAs}
 use Rattle.sequencer.specs.Run.{
-  asRefused,
   badImage,
   badState,
   eventsRefusal,
@@ -21,32 +20,32 @@ use Rattle.sequencer.specs.Run.{
   logAfter,
   runAnswer,
   runRefusal,
-  runRefused,
+  refusedRun,
 }
-use Rattle.machine.specs.Sequencer.{sequencerInRange}
-use Rattle.machine.specs.Word.{imageWords}
-use Rattle.sequencer.specs.declared.Ran.{Ran}
-use Rattle.sequencer.specs.declared.Refused.{Refused}
-use Rattle.machine.specs.declared.Sequencer.{Sequencer}
-use Rattle.machine.proofs.Faults.{or-right}
+use Rattle.step.specs.Sequencer.{sequencerInRange}
+use Rattle.step.specs.Word.{imageWords}
+use Rattle.sequencer.specs.declared.RunResult.{RunResult}
+use Rattle.outcome.specs.declared.Refusal.{Refusal}
+use Rattle.step.specs.declared.Sequencer.{Sequencer}
+use Rattle.step.proofs.Faults.{or-right}
 
 pub refused :
-    (image : List ℕ) (d : Device) (s : Sequencer) (events : List ℕ) (budget : ℕ) (log : List ℕ) (f : Refused)
-    → f ≡ asRefused (runRefusal image d s events) → (f .number ≡ 0 → ⊥)
-    → (runRefused (refusal (f .number) (f .place)) d s ≡ runAnswer image d s events budget log)
+    (image : List ℕ) (d : Device) (s : Sequencer) (events : List ℕ) (budget : ℕ) (log : List ℕ) (f : Refusal)
+    → f ≡ runRefusal image d s events → (f .number ≡ 0 → ⊥)
+    → (refusedRun (refusal (f .number) (f .place)) d s ≡ runAnswer image d s events budget log)
     × (log ≡ logAfter image d s events budget log)
 unfolding runAnswer logAfter
 refused image d s events budget log f e n =
-    let k = ne-eqb (runRefusal image d s events .number) 0 (λ z. n (ap (λ (x : Refused). x .number) e ∙ z)) in
+    let k = ne-eqb (runRefusal image d s events .number) 0 (λ z. n (ap (λ (x : Refusal). x .number) e ∙ z)) in
     (rw (e, k), rw k)
 
 pub not-refused :
-    (image : List ℕ) (d : Device) (s : Sequencer) (events : List ℕ) (f : Refused)
-    → f ≡ asRefused (runRefusal image d s events) → f .number ≡ 0 → runRefusal image d s events .number ≡ 0
-not-refused image d s events f e z = sym (ap (λ (x : Refused). x .number) e) ∙ z
+    (image : List ℕ) (d : Device) (s : Sequencer) (events : List ℕ) (f : Refusal)
+    → f ≡ runRefusal image d s events → f .number ≡ 0 → runRefusal image d s events .number ≡ 0
+not-refused image d s events f e z = sym (ap (λ (x : Refusal). x .number) e) ∙ z
 
 pub done :
-    (image : List ℕ) (d : Device) (s : Sequencer) (events : List ℕ) (budget : ℕ) (log log' : List ℕ) (r : Ran)
+    (image : List ℕ) (d : Device) (s : Sequencer) (events : List ℕ) (budget : ℕ) (log log' : List ℕ) (r : RunResult)
     → runRefusal image d s events .number ≡ 0
     → EndsAs events log log' r (imageRun image d s events budget (length log))
     → (r ≡ runAnswer image d s events budget log) × (log' ≡ logAfter image d s events budget log)

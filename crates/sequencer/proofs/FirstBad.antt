@@ -7,7 +7,7 @@ use native.Mathlib.Numerals.{add-one}
 use lib.ListN.{length, drop, getD, drop-of-length-le}
 use lib.Seq.{drop-cons}
 use Rattle.device.specs.Event.{isEvent}
-use Rattle.script.specs.Refusals.{refusal}
+use Rattle.outcome.specs.Refusal.{refusal}
 use Rattle.sequencer.specs.Run.{firstBadEvent}
 
 pub bad-here :

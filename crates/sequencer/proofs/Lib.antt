@@ -1,4 +1,4 @@
 pub mod FirstBad
-pub mod Going
+pub mod LoopInvariant
 pub mod Answers
 pub mod Range

@@ -3,21 +3,21 @@ use Prim.Native.Nat.{ℕ}
 use mathlib.Core.Path.{_≡_}
 use mathlib.Core.List.{List}
 use Rattle.device.specs.declared.Device.{Device}
-use Rattle.machine.specs.Holds.{Holds, Running, running}
-use Rattle.machine.specs.Sequencer.{countersOf, laid}
-use Rattle.machine.specs.Step.{filled, machine}
-use Rattle.machine.specs.declared.Sequencer.{Sequencer}
-use Rattle.machine.specs.declared.running.Position.{Position}
+use Rattle.step.specs.Represents.{Represents, RunState, runState}
+use Rattle.step.specs.Sequencer.{countersOf, counterArray}
+use Rattle.step.specs.Step.{logFilled, machine}
+use Rattle.step.specs.declared.Sequencer.{Sequencer}
+use Rattle.step.specs.declared.execute.Position.{Position}
 use Rattle.semantics.specs.World.{startWorld}
-use Rattle.sequencer.specs.Run.{Ended, answerOf}
-use Rattle.sequencer.specs.declared.Ran.{Ran}
+use Rattle.sequencer.specs.Run.{RunEnd, runResult}
+use Rattle.sequencer.specs.declared.RunResult.{RunResult}
 
 abbrev pub Starts : Sequencer → Position → Type 0
 Starts s x =
     (d : Device) (events lent : List ℕ)
-    → Holds (running d x (laid (countersOf s))) events lent lent (machine (s .place) (countersOf s) (startWorld d events))
+    → Represents (runState d x (counterArray (countersOf s))) events lent lent (machine (s .place) (countersOf s) (startWorld d events))
 
-abbrev pub answer : (outcome steps : ℕ) → Running → Ran
+abbrev pub answer : (outcome steps : ℕ) → RunState → RunResult
 answer outcome steps x = record {
   outcome = outcome;
   place = 0;
@@ -29,6 +29,6 @@ answer outcome steps x = record {
 }
 
 -- the answer of a run, and the log behind it
-pub record EndsAs (events log log' : List ℕ) (r : Ran) (e : Ended) : Type 0 where
-  pub answered : r ≡ answerOf events e
-  pub lines : log' ≡ filled (e .machine .world .logged) log
+pub record EndsAs (events log log' : List ℕ) (r : RunResult) (e : RunEnd) : Type 0 where
+  pub answered : r ≡ runResult events e
+  pub lines : log' ≡ logFilled (e .machine .world .logged) log

@@ -7,46 +7,49 @@ use lib.ListN.{length}
 use Rattle.device.specs.Device.{deviceInRange}
 use Rattle.device.specs.Event.{isEvent}
 use Rattle.device.specs.declared.Device.{Device}
-use Rattle.record.specs.Record.{recordSize}
-use Rattle.script.specs.Refusals.{Refusal, refusal}
+use Rattle.record.specs.Record.{mostRecords, recordSize}
+use Rattle.outcome.specs.Ending as ending
+use Rattle.outcome.specs.Number as number
+use Rattle.outcome.specs.Refusal.{refusal}
+use Rattle.outcome.specs.declared.Refusal.{Refusal}
 use Rattle.semantics.specs.World.{startWorld}
-use Rattle.machine.specs.Sequencer.{countersOf, sequencerAt, sequencerInRange}
-use Rattle.machine.specs.Step.{Machine, Step, faults, filled, goesOn, halts, machine, stepOf}
-use Rattle.machine.specs.Word.{imageWords}
-use Rattle.sequencer.specs.declared.Ran.{Ran}
-use Rattle.sequencer.specs.declared.Refused.{Refused}
-use Rattle.machine.specs.declared.Sequencer.{Sequencer}
+use Rattle.step.specs.Sequencer.{countersOf, sequencerAt, sequencerInRange}
+use Rattle.step.specs.Step.{Machine, Step, faults, logFilled, goesOn, halts, machine, nextStep}
+use Rattle.step.specs.Word.{imageWords}
+use Rattle.sequencer.specs.declared.RunResult.{RunResult}
+use Rattle.outcome.specs.declared.Refusal.{Refusal}
+use Rattle.step.specs.declared.Sequencer.{Sequencer}
 
 -- how a run ends: the outcome, the words executed, and the machine as they left it
-pub record Ended : Type 0 where
+pub record RunEnd : Type 0 where
   pub outcome : ℕ
   pub steps : ℕ
   pub machine : Machine
 
-abbrev pub ended : ℕ → ℕ → Machine → Ended
-ended o n m = record { outcome = o; steps = n; machine = m }
+abbrev pub runEnd : ℕ → ℕ → Machine → RunEnd
+runEnd o n m = record { outcome = o; steps = n; machine = m }
 
 -- behind a step: the rest of the run, or its end. "Steps: one per word executed, halt included." "A faulting word does
 -- nothing, takes no event and counts no step. Halt stays on its own word."
-abbrev pub follow : (Machine → Ended) → ℕ → Machine → Step → Ended
+abbrev pub follow : (Machine → RunEnd) → ℕ → Machine → Step → RunEnd
 follow rest steps m (goesOn n) = rest n
-follow rest steps m halts = ended 0 (suc steps) m
-follow rest steps m (faults f) = ended f steps m
+follow rest steps m halts = runEnd ending.halted (suc steps) m
+follow rest steps m (faults f) = runEnd f steps m
 
 -- the run of an image from a machine, with so much of the budget left and so many steps made; the log has room for so many
 -- values. "Budget is looked at first": "19 budget spent"
-abbrev pub ran : List ℕ → (room left steps : ℕ) → Machine → Ended
-ran image room zero steps m = ended 19 steps m
-ran image room (suc left) steps m = follow (ran image room left (suc steps)) steps m (stepOf image room m)
+abbrev pub runFrom : List ℕ → (room left steps : ℕ) → Machine → RunEnd
+runFrom image room zero steps m = runEnd ending.budgetSpent steps m
+runFrom image room (suc left) steps m = follow (runFrom image room left (suc steps)) steps m (nextStep image room m)
 
 -- ---- the refusals
 -- "A run ends with 0 halted, 19 budget spent, or a fault: 20 [..]": a smaller number is a refusal's
 abbrev pub isRefusal : ℕ → Bool
-isRefusal outcome = not (eqb outcome 0) && ltb outcome 19
+isRefusal outcome = not (eqb outcome ending.halted) && ltb outcome ending.budgetSpent
 
 -- 10: "image empty, no multiple of 12, or over 1,024 words (0)"
 abbrev pub badImage : List ℕ → Bool
-badImage image = eqb (length image) 0 || (not (eqb (length image % recordSize) 0) || ltb 1024 (imageWords image))
+badImage image = eqb (length image) 0 || (not (eqb (length image % recordSize) 0) || ltb mostRecords (imageWords image))
 
 -- 11: "device or sequencer state out of range (0)"
 abbrev pub badState : Device → Sequencer → Bool
@@ -55,27 +58,27 @@ badState d s = not (deviceInRange d && sequencerInRange s)
 -- 12: "bad event (the first's place; always 4,096 if over 4,096 events)"
 abbrev pub firstBadEvent : ℕ → List ℕ → Refusal
 firstBadEvent place [] = refusal 0 0
-firstBadEvent place (e ∷ es) = cond (isEvent e) (firstBadEvent (suc place) es) (refusal 12 place)
+firstBadEvent place (e ∷ es) = cond (isEvent e) (firstBadEvent (suc place) es) (refusal number.badEvent place)
+
+abbrev pub mostEvents : ℕ
+mostEvents = 4096
 
 unfoldable pub eventsRefusal : List ℕ → Refusal
-eventsRefusal events = cond (ltb 4096 (length events)) (refusal 12 4096) (firstBadEvent 0 events)
+eventsRefusal events = cond (ltb mostEvents (length events)) (refusal number.badEvent mostEvents) (firstBadEvent 0 events)
 
 -- "Runs: 10, 11, 12."
 unfoldable pub runRefusal : List ℕ → Device → Sequencer → List ℕ → Refusal
 runRefusal image d s events =
-    cond (badImage image) (refusal 10 0) (cond (badState d s) (refusal 11 0) (eventsRefusal events))
-
-abbrev pub asRefused : Refusal → Refused
-asRefused f = record { number = f .number; place = f .place }
+    cond (badImage image) (refusal number.badImage 0) (cond (badState d s) (refusal number.badState 0) (eventsRefusal events))
 
 -- ---- the call
 -- "A run may start from a stopped state."
-unfoldable pub imageRun : List ℕ → Device → Sequencer → List ℕ → (budget room : ℕ) → Ended
+unfoldable pub imageRun : List ℕ → Device → Sequencer → List ℕ → (budget room : ℕ) → RunEnd
 imageRun image d s events budget room =
-    ran image room budget 0 (machine (s .place) (countersOf s) (startWorld d events))
+    runFrom image room budget 0 (machine (s .place) (countersOf s) (startWorld d events))
 
-abbrev pub answerOf : List ℕ → Ended → Ran
-answerOf events e = record {
+abbrev pub runResult : List ℕ → RunEnd → RunResult
+runResult events e = record {
   outcome = e .outcome;
   place = 0;
   steps = e .steps;
@@ -86,8 +89,8 @@ answerOf events e = record {
 }
 
 -- "A refusal's other numbers are 0, events taken too; the sequencer is as given."
-abbrev pub runRefused : Refusal → Device → Sequencer → Ran
-runRefused f d s = record {
+abbrev pub refusedRun : Refusal → Device → Sequencer → RunResult
+refusedRun f d s = record {
   outcome = f .number;
   place = f .place;
   steps = 0;
@@ -97,13 +100,13 @@ runRefused f d s = record {
   device = d;
 }
 
-unfoldable pub runAnswer : List ℕ → Device → Sequencer → List ℕ → ℕ → List ℕ → Ran
+unfoldable pub runAnswer : List ℕ → Device → Sequencer → List ℕ → ℕ → List ℕ → RunResult
 runAnswer image d s events budget log =
     cond (eqb (runRefusal image d s events .number) 0)
-    (answerOf events (imageRun image d s events budget (length log)))
-    (runRefused (runRefusal image d s events) d s)
+    (runResult events (imageRun image d s events budget (length log)))
+    (refusedRun (runRefusal image d s events) d s)
 
 unfoldable pub logAfter : List ℕ → Device → Sequencer → List ℕ → ℕ → List ℕ → List ℕ
 logAfter image d s events budget log =
     cond (eqb (runRefusal image d s events .number) 0)
-    (filled (imageRun image d s events budget (length log) .machine .world .logged) log) log
+    (logFilled (imageRun image d s events budget (length log) .machine .world .logged) log) log

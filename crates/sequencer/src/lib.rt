@@ -2,16 +2,18 @@
 use access::Answer;
 use device::AccessResult;
 use device::Device;
-use machine::Sequencer;
-use machine::running;
-use machine::running::Position;
-use machine::word;
+use outcome::Refusal;
 use record::Record;
+use step::COUNTERS;
+use step::Sequencer;
+use step::execute;
+use step::execute::Position;
+use step::word;
 ghost use mathlib.Core.Path.{_≡_};
 ghost use mathlib.Core.Bool.{true};
 ghost use Prim.Native.Nat.{_+_, _<_, _≤_};
 ghost use lib.ListN.{length};
-ghost use Rattle.machine.specs.Sequencer.{sequencerInRange, countersOf, laid};
+ghost use Rattle.step.specs.Sequencer.{sequencerInRange, countersOf, counterArray};
 ghost use Rattle.sequencer.specs.Run.{
   isRefusal,
   badImage,
@@ -21,14 +23,14 @@ ghost use Rattle.sequencer.specs.Run.{
   runAnswer,
   logAfter,
   imageRun,
-  asRefused,
 };
-ghost use Rattle.machine.specs.Word.{imageWords};
-ghost use Rattle.machine.specs.Holds.{running};
+ghost use Rattle.record.specs.Record.{mostRecords};
+ghost use Rattle.step.specs.Word.{imageWords};
+ghost use Rattle.step.specs.Represents.{runState};
 ghost use Rattle.sequencer.specs.Ends.{Starts, EndsAs, answer};
 
 // The answer to a run: the outcome is how it ended, or a refusal's number with its place.
-pub struct Ran {
+pub struct RunResult {
     pub outcome: u32,
     pub place: u32,
     pub steps: u32,
@@ -38,28 +40,19 @@ pub struct Ran {
     pub device: Device,
 }
 
-// A refusal's number and place; number 0 is none.
-pub struct Refused {
-    pub number: u32,
-    pub place: u32,
-}
-
-pub const HALTED: u32 = 0;
-
-pub const BUDGET_SPENT: u32 = 19;
-
-pub const PLACE_BEYOND: u32 = 21;
-
 const MOST_EVENTS: usize = 4096;
+
+// The place of refusal 12 when there are more events.
+const TOO_MANY_EVENTS_PLACE: u32 = MOST_EVENTS as u32;
 
 // Is an outcome a refusal's number, and no run's ending?
 pub fn is_refusal(outcome: u32) -> bool
     ensures { λ r. ⌜ r ≡ isRefusal outcome ⌝ }
 {
-    if outcome == HALTED {
+    if outcome == outcome::HALTED {
         return false;
     }
-    outcome < BUDGET_SPENT
+    outcome < outcome::BUDGET_SPENT
 }
 
 // ---- the refusals
@@ -73,7 +66,7 @@ fn bad_image(image: &[u8]) -> bool
     if image.len() % Record::SIZE != 0 {
         return true;
     }
-    1024 < image.len() / Record::SIZE
+    Record::MOST < image.len() / Record::SIZE
 }
 
 fn bad_state(device: Device, sequencer: Sequencer) -> bool
@@ -85,43 +78,43 @@ fn bad_state(device: Device, sequencer: Sequencer) -> bool
     true
 }
 
-fn events_refusal(events: &[u32]) -> Refused
-    ensures { λ r. ⌜ r ≡ asRefused (eventsRefusal (now (events .entry))) ⌝ }
+fn events_refusal(events: &[u32]) -> Refusal
+    ensures { λ r. ⌜ r ≡ eventsRefusal (now (events .entry)) ⌝ }
 {
     if MOST_EVENTS < events.len() {
-        return Refused {
-            number: 12,
-            place: 4096,
+        return Refusal {
+            number: outcome::BAD_EVENT,
+            place: TOO_MANY_EVENTS_PLACE,
         };
     }
     let mut k: usize = 0;
     while k < events.len() {
         if !device::event::is_event(events[k]) {
-            return Refused {
-                number: 12,
+            return Refusal {
+                number: outcome::BAD_EVENT,
                 place: k as u32,
             };
         }
         k = k + 1;
     }
-    Refused {
+    Refusal {
         number: 0,
         place: 0,
     }
 }
 
-fn refusal(image: &[u8], device: Device, sequencer: Sequencer, events: &[u32]) -> Refused
-    ensures { λ r. ⌜ r ≡ asRefused (runRefusal (now (image .entry)) device sequencer (now (events .entry))) ⌝ }
+fn run_refusal(image: &[u8], device: Device, sequencer: Sequencer, events: &[u32]) -> Refusal
+    ensures { λ r. ⌜ r ≡ runRefusal (now (image .entry)) device sequencer (now (events .entry)) ⌝ }
 {
     if bad_image(image) {
-        return Refused {
-            number: 10,
+        return Refusal {
+            number: outcome::BAD_IMAGE,
             place: 0,
         };
     }
     if bad_state(device, sequencer) {
-        return Refused {
-            number: 11,
+        return Refusal {
+            number: outcome::BAD_STATE,
             place: 0,
         };
     }
@@ -144,9 +137,9 @@ fn start(sequencer: Sequencer) -> Position
 }
 
 // The counters, in an array of the run's own.
-fn counters_of(sequencer: Sequencer) -> [u32; 8]
+fn counters_of(sequencer: Sequencer) -> [u32; COUNTERS]
     requires { ⌜ sequencerInRange sequencer ≡ true ⌝ }
-    ensures { λ r. ⌜ r ≡ laid (countersOf sequencer) ⌝ }
+    ensures { λ r. ⌜ r ≡ counterArray (countersOf sequencer) ⌝ }
 {
     let given = sequencer.counters;
     [
@@ -161,15 +154,21 @@ fn counters_of(sequencer: Sequencer) -> [u32; 8]
     ]
 }
 
-fn ended(outcome: u32, steps: u32, device: Device, x: Position, counters: [u32; 8]) -> Ran
-    ensures { λ r. ⌜ r ≡ answer outcome steps (running device x counters) ⌝ }
+fn run_result(
+    outcome: u32,
+    steps: u32,
+    device: Device,
+    x: Position,
+    counters: [u32; COUNTERS],
+) -> RunResult
+    ensures { λ r. ⌜ r ≡ answer outcome steps (runState device x counters) ⌝ }
 {
     let sequencer = Sequencer {
         place: x.place,
         counters,
         used: x.used,
     };
-    Ran {
+    RunResult {
         outcome,
         place: 0,
         steps,
@@ -187,7 +186,7 @@ fn index(place: u32) -> usize
 }
 
 // One word executed.
-fn counted(steps: u32) -> u32
+fn count_step(steps: u32) -> u32
     requires { ⌜ steps < 4294967295 ⌝ }
     ensures { λ r. ⌜ r ≡ steps + 1 ⌝ }
 {
@@ -203,8 +202,8 @@ fn run_words(
     events: &[u32],
     budget: u32,
     log: &mut [u32],
-) -> Ran
-    requires { ⌜ (imageWords (now image) ≤ 1024) × (sequencerInRange sequencer ≡ true) ⌝ }
+) -> RunResult
+    requires { ⌜ (imageWords (now image) ≤ mostRecords) × (sequencerInRange sequencer ≡ true) ⌝ }
     ensures { λ r. ⌜ EndsAs (now (events .entry)) (now (log .entry)) (now (log .exit)) r (imageRun (now (image .entry)) device sequencer (now (events .entry)) budget (length (now (log .entry)))) ⌝ }
 {
     let words = (image.len() / Record::SIZE) as u32;
@@ -217,27 +216,27 @@ fn run_words(
     let mut steps: u32 = 0;
     while steps < budget {
         if words <= x.place {
-            return ended(PLACE_BEYOND, steps, last.device, x, counters);
+            return run_result(outcome::BEYOND_LAST_WORD, steps, last.device, x, counters);
         }
         let word = record::read(image, Record::SIZE * index(x.place));
         let fault = word::fault(words, log.len(), x.used, x.logged, word);
         if fault != 0 {
-            return ended(fault, steps, last.device, x, counters);
+            return run_result(fault, steps, last.device, x, counters);
         }
         if word.kind == word::HALT {
-            return ended(HALTED, steps + 1, last.device, x, counters);
+            return run_result(outcome::HALTED, steps + 1, last.device, x, counters);
         }
-        if word::turns(word) {
-            let next = x.turned(word, &mut counters);
+        if word::is_control(word) {
+            let next = x.execute_control(word, &mut counters);
             x.used = next.used;
             x.place = next.place;
-            steps = counted(steps);
+            steps = count_step(steps);
         } else if word.kind == word::DELAY {
             let delayed = last.device
                 .apply_event(device::event::tick_event(word.value));
             last.device = delayed;
             x.place = x.place + 1;
-            steps = counted(steps);
+            steps = count_step(steps);
         } else {
             // The next event, if there is one, comes first.
             let taken = x.taken;
@@ -245,12 +244,12 @@ fn run_words(
                 let arrived = last.device.apply_event(events[taken]);
                 last.device = arrived;
             }
-            last = last.device.access(running::access_of(word));
-            x = x.answered(word, last.answer.value, events, log);
-            steps = counted(steps);
+            last = last.device.access(execute::access_of(word));
+            x = x.apply_answer(word, last.answer.value, events, log);
+            steps = count_step(steps);
         }
     }
-    ended(BUDGET_SPENT, steps, last.device, x, counters)
+    run_result(outcome::BUDGET_SPENT, steps, last.device, x, counters)
 }
 
 // Runs an image from a sequencer's state: document 01's one run call. A lone step is a run with budget 1.
@@ -261,12 +260,12 @@ pub fn run(
     events: &[u32],
     budget: u32,
     log: &mut [u32],
-) -> Ran
+) -> RunResult
     ensures { λ r. ⌜ (r ≡ runAnswer (now (image .entry)) device sequencer (now (events .entry)) budget (now (log .entry))) × (now (log .exit) ≡ logAfter (now (image .entry)) device sequencer (now (events .entry)) budget (now (log .entry))) ⌝ }
 {
-    let refusal = refusal(image, device, sequencer, events);
+    let refusal = run_refusal(image, device, sequencer, events);
     if refusal.number != 0 {
-        return Ran {
+        return RunResult {
             outcome: refusal.number,
             place: refusal.place,
             steps: 0,

@@ -31,7 +31,7 @@ use Rattle.state.specs.State.{
   stateBytes,
   stateSize,
 }
-use Rattle.state.specs.declared.Loaded.{Loaded}
+use Rattle.state.specs.declared.LoadResult.{LoadResult}
 
 -- every block's fields fit their types
 pub record Typed (d : Device) : Type 0 where
@@ -112,8 +112,8 @@ module _ (d : Device) where
   unfolding loaded loadedFrom
   load-back t =
       rw (eq-eqb (length (stateBytes d)) stateSize state-length)
-      (ap {B = Loaded} (λ (b : Bool). record { valid = b; device = deviceFrom (stateBytes d) }) state-saved
-      ∙ ap {B = Loaded} (λ (e : Device). record { valid = true; device = e }) (device-back t))
+      (ap {B = LoadResult} (λ (b : Bool). record { valid = b; device = deviceFrom (stateBytes d) }) state-saved
+      ∙ ap {B = LoadResult} (λ (e : Device). record { valid = true; device = e }) (device-back t))
 
 -- ---- loaded, then saved
 four-equal : {a b c d a′ b′ c′ d′ : List ℕ} → a ≡ a′ → b ≡ b′ → c ≡ c′ → d ≡ d′

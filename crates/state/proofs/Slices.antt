@@ -9,7 +9,7 @@ use native.Mathlib.Omega.{arith}
 use Rattle.device.specs.declared.Device.{Device}
 use Rattle.state.proofs.RoundTrip.{state-length}
 use Rattle.state.specs.State.{loaded, loadedFrom, refused, saved, stateBytes, stateSize}
-use Rattle.state.specs.declared.Loaded.{Loaded}
+use Rattle.state.specs.declared.LoadResult.{LoadResult}
 
 -- a part as long as the list that it is put into takes the place of all of it
 pub whole : (lent part : List ℕ) → length part ≡ length lent → paste lent 0 part (length part) ≡ part
@@ -29,7 +29,7 @@ pub saved-not : (d : Device) (lent : List ℕ) → (length lent ≡ stateSize �
 unfolding saved
 saved-not d lent n = rw (ne-eqb (length lent) stateSize n)
 
-pub loaded-whole : (bytes : List ℕ) (r : Loaded) → length bytes ≡ stateSize → r ≡ loadedFrom bytes → r ≡ loaded bytes
+pub loaded-whole : (bytes : List ℕ) (r : LoadResult) → length bytes ≡ stateSize → r ≡ loadedFrom bytes → r ≡ loaded bytes
 unfolding loaded
 loaded-whole bytes r n l = rw (eq-eqb (length bytes) stateSize n) l
 

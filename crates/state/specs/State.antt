@@ -12,7 +12,7 @@ use Rattle.device.specs.declared.Device.{Device}
 use Rattle.key.specs.Saved.{keyBytes, keyFrom}
 use Rattle.lists.specs.Tests.{allHold}
 use Rattle.monitor.specs.Saved.{monitorBytes, monitorFrom, monitorSaved}
-use Rattle.state.specs.declared.Loaded.{Loaded}
+use Rattle.state.specs.declared.LoadResult.{LoadResult}
 
 -- ---- where each block's bytes start, and how many there are in all
 abbrev pub keyStart : ℕ
@@ -52,15 +52,15 @@ savedTests bytes =
 abbrev pub isSaved : List ℕ → Bool
 isSaved bytes = allHold (savedTests bytes)
 
-unfoldable pub loadedFrom : List ℕ → Loaded
+unfoldable pub loadedFrom : List ℕ → LoadResult
 loadedFrom bytes = record { valid = isSaved bytes; device = deviceFrom bytes }
 
 -- ---- a slice of any length: only one of the state's size takes or gives a state
 unfoldable pub saved : Device → List ℕ → List ℕ
 saved d bytes = cond (eqb (length bytes) stateSize) (stateBytes d) bytes
 
-abbrev pub refused : Loaded
+abbrev pub refused : LoadResult
 refused = record { valid = false; device = freshDevice }
 
-unfoldable pub loaded : List ℕ → Loaded
+unfoldable pub loaded : List ℕ → LoadResult
 loaded bytes = cond (eqb (length bytes) stateSize) (loadedFrom bytes) refused

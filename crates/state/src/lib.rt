@@ -20,7 +20,7 @@ const ACPI_START: usize = MONITOR_START + Monitor::SIZE;
 pub const SIZE: usize = ACPI_START + Acpi::SIZE;
 
 // A device read from bytes; `valid` is false where no device can hold such a state.
-pub struct Loaded {
+pub struct LoadResult {
     pub valid: bool,
     pub device: Device,
 }
@@ -46,7 +46,7 @@ pub fn bytes_of(device: Device) -> [u8; SIZE]
     bytes
 }
 
-fn read_from(bytes: &[u8]) -> Loaded
+fn read_from(bytes: &[u8]) -> LoadResult
     requires { ⌜ length (now bytes) ≡ stateSize ⌝ }
     ensures { λ r. ⌜ r ≡ loadedFrom (now (bytes .entry)) ⌝ }
 {
@@ -61,10 +61,10 @@ fn read_from(bytes: &[u8]) -> Loaded
         monitor: Monitor::from_bytes(monitor),
         key: Key::from_bytes(key),
     };
-    Loaded { valid, device }
+    LoadResult { valid, device }
 }
 
-pub fn device_of(bytes: &[u8; SIZE]) -> Loaded
+pub fn device_of(bytes: &[u8; SIZE]) -> LoadResult
     ensures { λ r. ⌜ r ≡ loadedFrom (now (bytes .entry)) ⌝ }
 {
     read_from(bytes)
@@ -80,11 +80,11 @@ pub fn save(device: Device, bytes: &mut [u8])
 }
 
 // The state in a slice; of a slice of another length it is not valid.
-pub fn load(bytes: &[u8]) -> Loaded
+pub fn load(bytes: &[u8]) -> LoadResult
     ensures { λ r. ⌜ r ≡ loaded (now (bytes .entry)) ⌝ }
 {
     if bytes.len() != SIZE {
-        return Loaded {
+        return LoadResult {
             valid: false,
             device: Device::fresh(),
         };

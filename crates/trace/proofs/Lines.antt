@@ -9,7 +9,7 @@ use lib.Seq.{drop-cons, getD-take}
 use Rattle.digits.proofs.Puts.{decimal-length, puts-both, puts-whole}
 use Rattle.digits.specs.Text.{Line, decimalText, lineAt, put, puts}
 use Rattle.sequencer.specs.Run.{isRefusal}
-use Rattle.sequencer.specs.declared.Ran.{Ran}
+use Rattle.sequencer.specs.declared.RunResult.{RunResult}
 use Rattle.trace.specs.Printed.{endText, numbersText, printed, readText, readsText, refusedText}
 
 pub numbers-put : (first second : ℕ) (l : Line)
@@ -61,7 +61,7 @@ numbers-length first second =
     let s = decimal-length second in
     omega (arith, a, b, f, s)
 
-printed-length : (r : Ran) (log : List ℕ) → length log ≤ 1024 → length (printed r log) ≤ 14400
+printed-length : (r : RunResult) (log : List ℕ) → length log ≤ 1024 → length (printed r log) ≤ 14400
 printed-length r log h = pick (isRefusal (r .outcome))
   where
     refusal : length (refusedText (r .outcome) (r .place)) ≤ 14400
@@ -81,7 +81,7 @@ printed-length r log h = pick (isRefusal (r .outcome))
     pick true = refusal
     pick false = run
 
-pub whole : (text : List ℕ) (r : Ran) (log : List ℕ) → length text ≡ 14400 → length log ≤ 1024
+pub whole : (text : List ℕ) (r : RunResult) (log : List ℕ) → length text ≡ 14400 → length log ≤ 1024
     → puts (printed r log) (lineAt text 0) .at ≡ length (printed r log)
 whole text r log l h =
     let n = printed-length r log h in

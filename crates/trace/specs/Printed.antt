@@ -5,7 +5,7 @@ use mathlib.Core.List.{List, [], _∷_, _++_}
 use lib.ListN.{take}
 use Rattle.digits.specs.Text.{decimalText, hexText}
 use Rattle.sequencer.specs.Run.{isRefusal}
-use Rattle.sequencer.specs.declared.Ran.{Ran}
+use Rattle.sequencer.specs.declared.RunResult.{RunResult}
 
 -- "It prints `READ` and eight upper-case hex digits per logged value"
 abbrev pub readText : ℕ → List ℕ
@@ -28,7 +28,7 @@ abbrev pub refusedText : ℕ → ℕ → List ℕ
 refusedText number place =
     0x52 ∷ 0x45 ∷ 0x46 ∷ 0x55 ∷ 0x53 ∷ 0x45 ∷ 0x44 ∷ 0x20 ∷ numbersText number place
 
-abbrev pub printed : Ran → List ℕ → List ℕ
+abbrev pub printed : RunResult → List ℕ → List ℕ
 printed r log =
     cond (isRefusal (r .outcome)) (refusedText (r .outcome) (r .place))
     (readsText (take (r .logged) log) ++ endText (r .outcome) (r .steps))

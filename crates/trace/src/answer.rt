@@ -1,6 +1,6 @@
 // What `trace` prints, written whole.
 use libc::STDOUT_FILENO;
-use sequencer::Ran;
+use sequencer::RunResult;
 ghost use mathlib.Core.Path.{_≡_};
 ghost use lib.ListN.{take};
 ghost use Rattle.digits.specs.Text.{lineAt, puts};
@@ -44,14 +44,14 @@ fn put_numbers(text: &mut [u8], at: usize, first: u32, second: u32) -> usize
     digits::put(text, c, b'\n')
 }
 
-fn refused(text: &mut [u8], number: u32, place: u32) -> usize
+fn put_refusal(text: &mut [u8], number: u32, place: u32) -> usize
     ensures { λ r. ⌜ lineAt (now (text .exit)) r ≡ puts (refusedText number place) (lineAt (now (text .entry)) 0) ⌝ }
 {
     let a = digits::put_text(text, 0, b"REFUSED ");
     put_numbers(text, a, number, place)
 }
 
-fn ended(text: &mut [u8], outcome: u32, steps: u32, at: usize) -> usize
+fn put_end(text: &mut [u8], outcome: u32, steps: u32, at: usize) -> usize
     ensures { λ r. ⌜ lineAt (now (text .exit)) r ≡ puts (endText outcome steps) (lineAt (now (text .entry)) at) ⌝ }
 {
     let a = digits::put_text(text, at, b"END ");
@@ -59,19 +59,19 @@ fn ended(text: &mut [u8], outcome: u32, steps: u32, at: usize) -> usize
 }
 
 // The whole text, and how long it is.
-fn put_ran(text: &mut [u8], ran: Ran, log: &[u32]) -> usize
-    ensures { λ r. ⌜ lineAt (now (text .exit)) r ≡ puts (printed ran (now (log .entry))) (lineAt (now (text .entry)) 0) ⌝ }
+fn put_result(text: &mut [u8], result: RunResult, log: &[u32]) -> usize
+    ensures { λ r. ⌜ lineAt (now (text .exit)) r ≡ puts (printed result (now (log .entry))) (lineAt (now (text .entry)) 0) ⌝ }
 {
-    if sequencer::is_refusal(ran.outcome) {
-        return refused(text, ran.outcome, ran.place);
+    if sequencer::is_refusal(result.outcome) {
+        return put_refusal(text, result.outcome, result.place);
     }
-    let at = put_reads(text, log, ran.logged);
-    ended(text, ran.outcome, ran.steps, at)
+    let at = put_reads(text, log, result.logged);
+    put_end(text, result.outcome, result.steps, at)
 }
 
 // There is room for the lines of 1,024 values, of 14 bytes each, and the last one.
-pub fn ran(ran: Ran, log: &[u32]) {
+pub fn print(result: RunResult, log: &[u32]) {
     let mut text = [0u8; 14400];
-    let end = put_ran(&mut text, ran, log);
+    let end = put_result(&mut text, result, log);
     write(&text, end);
 }

@@ -11,8 +11,8 @@ fn trace(script: &[u8]) {
     let mut log = [0u32; 1024];
     let events = [0u32; 0];
     let device = Device::fresh();
-    let ran = correct::compile_and_run(script, device, &events, BUDGET, &mut log);
-    answer::ran(ran, &log);
+    let result = correct::compile_and_run(script, device, &events, BUDGET, &mut log);
+    answer::print(result, &log);
 }
 
 // The buffer takes one record more than a script may have, so a script that fills it is refused as the whole input is.

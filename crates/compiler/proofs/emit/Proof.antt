@@ -34,8 +34,8 @@ array-read-target c = omega arith
 add-next : tie.Need-add-next Inv-loop μ-loop
 add-next c = omega arith
 
-gives-requires : tie.Need-gives-requires Inv-loop μ-loop
-gives-requires c κs = search needs
+emits-word-requires : tie.Need-emits-word-requires Inv-loop μ-loop
+emits-word-requires c κs = search needs
 
 word-kind-requires : tie.Need-word-kind-requires Inv-loop μ-loop
 word-kind-requires c κs = search needs
@@ -55,7 +55,7 @@ loop-less c = omega arith
 loop-again : tie.Need-loop-again Inv-loop μ-loop
 loop-again c =
     goes-on (c .before .before .before .before .before .before .before .before .before .before .loop .inv) (c .before .before .before .before .before .before .before .before .before .loop-test .taken) (c .before .before .before .before .before .before .before .before .read .ensures)
-    (sym (c .before .before .before .before .before .before .before .gives .ensures) ∙ c .before .before .before .before .before .before .if1 .taken)
+    (sym (c .before .before .before .before .before .before .before .emits-word .ensures) ∙ c .before .before .before .before .before .before .if1 .taken)
     (rw (c .before .before .before .before .before .word-kind .ensures) at (c .before .before .before .word .ensures)) (c .before .before .put .ensures) (c .before .before .put .kept .0)
 
 loop-less-2 : tie.Need-loop-less-2 Inv-loop μ-loop
@@ -64,7 +64,7 @@ loop-less-2 c = omega arith
 loop-again-2 : tie.Need-loop-again-2 Inv-loop μ-loop
 loop-again-2 c =
     passes (c .before .before .before .before .loop .inv) (c .before .before .before .loop-test .taken) (c .before .before .read .ensures)
-    (sym (c .before .gives .ensures) ∙ c .if1 .left)
+    (sym (c .before .emits-word .ensures) ∙ c .if1 .left)
 
 word-requires-2 : tie.Need-word-requires-2 Inv-loop μ-loop
 word-requires-2 c κs = search needs
@@ -92,7 +92,7 @@ emit-spec =
     mul-target
     array-read-target
     add-next
-    gives-requires
+    emits-word-requires
     word-kind-requires
     word-requires
     put-requires

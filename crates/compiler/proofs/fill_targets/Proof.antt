@@ -46,8 +46,8 @@ mul-kind-at c = omega arith
 kind-at-requires : tie.Need-kind-at-requires Inv-loop μ-loop
 kind-at-requires c κs = omega arith
 
-add-behind : tie.Need-add-behind Inv-loop μ-loop
-add-behind c = omega arith
+add-next-place : tie.Need-add-next-place Inv-loop μ-loop
+add-next-place c = omega arith
 
 add-next : tie.Need-add-next Inv-loop μ-loop
 add-next c = omega arith
@@ -109,8 +109,8 @@ mul-opened c = omega arith
 array-read-opened : tie.Need-array-read-opened Inv-loop μ-loop
 array-read-opened c = omega arith
 
-behind-end-requires : tie.Need-behind-end-requires Inv-loop μ-loop
-behind-end-requires c κs = omega arith
+place-after-end-requires : tie.Need-place-after-end-requires Inv-loop μ-loop
+place-after-end-requires c κs = omega arith
 
 mul-targets-2 : tie.Need-mul-targets-2 Inv-loop μ-loop
 mul-targets-2 c = omega arith
@@ -148,7 +148,7 @@ loop-less-4 c = omega arith
 loop-again-4 : tie.Need-loop-again-4 Inv-loop μ-loop
 loop-again-4 c =
     ended (turn (c .before .before .before .before)) (has-block (c .before .before)) _ (c .before .before .if2 .left)
-    (c .before .if3 .left) (c .behind-end .ensures)
+    (c .before .if3 .left) (c .place-after-end .ensures)
 
 returns : tie.Need-returns Inv-loop μ-loop
 returns c = filled (c .before .loop .inv) (c .loop-test .left)
@@ -162,7 +162,7 @@ fill-targets-spec =
     loop-holds
     mul-kind-at
     kind-at-requires
-    add-behind
+    add-next-place
     add-next
     mul-waiting
     array-write-waiting
@@ -183,7 +183,7 @@ fill-targets-spec =
     array-read-start
     mul-opened
     array-read-opened
-    behind-end-requires
+    place-after-end-requires
     mul-targets-2
     element-write-targets-2
     mul-targets-3

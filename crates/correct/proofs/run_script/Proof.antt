@@ -1,6 +1,6 @@
 -- `correct::run_script` meets its contract. Assumes nothing.
 use native.Mathlib.Omega.{arith}
-use Rattle.compiler.specs.declared.Compiled.{Compiled}
+use Rattle.compiler.specs.declared.CompileResult.{CompileResult}
 use mathlib.Core.Path.{ap, sym, _∙_}
 use Rattle.correct.proofs.OneCall.{compiler-refuses, words-fit, words-run}
 use borrow.Author.Tests.{eq-eqb, ne-eqb}
@@ -26,8 +26,8 @@ returns c =
 run-words-requires : tie.Need-run-words-requires
 run-words-requires c κs =
     let e = c .before .before .before .before .before .before .compile .ensures .0 in
-    let f = words-fit (c .before .before .before .before .before .before .before .before .before .before .before .before .args .script .now) (c .before .before .before .before .before .before .before .before .before .before .before .before .args .image .now) (sym (ap (λ (x : Compiled). x .refusal) e) ∙ c .before .before .if1 .left) in
-    let w = ap (λ (x : Compiled). x .words) e in
+    let f = words-fit (c .before .before .before .before .before .before .before .before .before .before .before .before .args .script .now) (c .before .before .before .before .before .before .before .before .before .before .before .before .args .image .now) (sym (ap (λ (x : CompileResult). x .refusal) e) ∙ c .before .before .if1 .left) in
+    let w = ap (λ (x : CompileResult). x .words) e in
     (omega (arith, f .0, w, c .before .before .before .before .before .before .compile .kept .1 .0), omega (arith, f .1, w))
 
 same-length-2 : tie.Need-same-length-2
@@ -39,7 +39,7 @@ same-length-3 c = search needs
 returns-2 : tie.Need-returns-2
 returns-2 c =
     let e = c .before .before .before .before .before .before .before .before .before .compile .ensures .0 in
-    let accepted = sym (ap (λ (x : Compiled). x .refusal) e) ∙ c .before .before .before .before .before .if1 .left in
+    let accepted = sym (ap (λ (x : CompileResult). x .refusal) e) ∙ c .before .before .before .before .before .if1 .left in
     let w = words-run (c .before .before .before .before .before .before .before .before .before .before .before .before .before .before .before .args .script .now) (c .before .before .before .before .before .before .before .before .before .before .before .before .before .before .before .args .image .now) (c .before .before .before .before .before .before .before .before .before .before .before .before .before .before .before .args .device) (c .before .before .before .before .before .before .before .before .before .before .before .before .before .before .before .args .events .now) (c .before .before .before .before .before .before .before .before .before .before .before .before .before .before .before .args .budget) (c .before .before .before .before .before .before .before .before .before .before .before .before .before .before .before .args .log .now)
     (λ k. c .before .before .before .before .before .before .before .before .before .before .before .before .before .before .shared-slice-known .given k .fits) accepted in
     let r = rw (c .before .before .before .before .before .before .before .before .before .compile .ensures .1, e) at (c .before .before .run-words .ensures) in

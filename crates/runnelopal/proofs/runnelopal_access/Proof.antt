@@ -14,8 +14,8 @@ load-requires c κs = search needs
 lone-access-requires : tie.Need-lone-access-requires
 lone-access-requires c κs = search needs
 
-keep-requires : tie.Need-keep-requires
-keep-requires c κs = search needs
+save-unless-refused-requires : tie.Need-save-unless-refused-requires
+save-unless-refused-requires c κs = search needs
 
 put-access-requires : tie.Need-put-access-requires
 put-access-requires c κs = search needs
@@ -32,7 +32,7 @@ returns c =
     access-answered _ _ _ _ (c .before .before .before .before .before .before .before .before .before .before .before .before .load .ensures) (c .before .before .before .before .before .before .before .before .before .before .if1 .taken)
     (c .before .before .before .before .before .before .before .before .before .lone-access .ensures) in (
       ap (λ (x : LoneAccess). x .refusal) e,
-      (c .before .before .before .before .before .before .keep .ensures ∙ rw e, c .before .before .put-access .ensures ∙ rw e),
+      (c .before .before .before .before .before .before .save-unless-refused .ensures ∙ rw e, c .before .before .put-access .ensures ∙ rw e),
     )
 
 access-refused-requires : tie.Need-access-refused-requires
@@ -61,7 +61,7 @@ runnelopal-access-spec =
     (tie.spec
     load-requires
     lone-access-requires
-    keep-requires
+    save-unless-refused-requires
     put-access-requires
     same-length
     same-length-2

@@ -1,5 +1,5 @@
 -- `runnelopal::runnelopal_compile` meets its contract. Assumes nothing.
-use Rattle.compiler.specs.declared.Compiled.{Compiled}
+use Rattle.compiler.specs.declared.CompileResult.{CompileResult}
 use mathlib.Core.Path.{ap, _∙_}
 use borrow.Author.Needs.{needs}
 use Rattle.runnelopal.proofs.runnelopal_compile.Statement.{statement}
@@ -29,7 +29,7 @@ same-length-2 c = search needs
 returns : tie.Need-returns
 returns c =
     let k = c .before .before .before .before .before .before .before .before .before .before .before .before .compile .ensures in (
-      (ap (λ (x : Compiled). x .refusal) (k .0), k .1),
+      (ap (λ (x : CompileResult). x .refusal) (k .0), k .1),
       c .before .before .put2 .ensures ∙ rw (c .before .before .before .before .before .before .before .put .ensures, k .0),
     )
 

@@ -13,8 +13,8 @@ load-requires c κs = search needs
 lone-event-requires : tie.Need-lone-event-requires
 lone-event-requires c κs = search needs
 
-keep-requires : tie.Need-keep-requires
-keep-requires c κs = search needs
+save-unless-refused-requires : tie.Need-save-unless-refused-requires
+save-unless-refused-requires c κs = search needs
 
 put-event-requires : tie.Need-put-event-requires
 put-event-requires c κs = search needs
@@ -31,7 +31,7 @@ returns c =
     event-answered _ _ _ _ (c .before .before .before .before .before .before .before .before .before .before .before .before .load .ensures) (c .before .before .before .before .before .before .before .before .before .before .if1 .taken)
     (c .before .before .before .before .before .before .before .before .before .lone-event .ensures) in (
       ap (λ (x : LoneEvent). x .refusal) e,
-      (c .before .before .before .before .before .before .keep .ensures ∙ rw e, c .before .before .put-event .ensures ∙ rw e),
+      (c .before .before .before .before .before .before .save-unless-refused .ensures ∙ rw e, c .before .before .put-event .ensures ∙ rw e),
     )
 
 event-refused-requires : tie.Need-event-refused-requires
@@ -60,7 +60,7 @@ runnelopal-event-spec =
     (tie.spec
     load-requires
     lone-event-requires
-    keep-requires
+    save-unless-refused-requires
     put-event-requires
     same-length
     same-length-2

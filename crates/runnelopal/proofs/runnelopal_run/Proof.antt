@@ -1,5 +1,5 @@
 -- `runnelopal::runnelopal_run` meets its contract. Assumes nothing.
-use Rattle.sequencer.specs.declared.Ran.{Ran}
+use Rattle.sequencer.specs.declared.RunResult.{RunResult}
 use mathlib.Core.Path.{ap, _∙_}
 use borrow.Author.Needs.{needs}
 use Rattle.runnelopal.proofs.runnelopal_run.Statement.{statement}
@@ -14,8 +14,8 @@ fresh-requires-2 c κs = search needs
 run-requires : tie.Need-run-requires
 run-requires c κs = search needs
 
-keep-run-requires : tie.Need-keep-run-requires
-keep-run-requires c κs = search needs
+save-run-unless-refused-requires : tie.Need-save-run-unless-refused-requires
+save-run-unless-refused-requires c κs = search needs
 
 put-run-requires : tie.Need-put-run-requires
 put-run-requires c κs = search needs
@@ -32,8 +32,8 @@ same-length-3 c = search needs
 returns : tie.Need-returns
 returns c =
     let k = rw (c .before .before .before .before .before .before .before .before .before .before .before .before .before .before .fresh .ensures, c .before .before .before .before .before .before .before .before .before .before .before .before .before .fresh2 .ensures) at (c .before .before .before .before .before .before .before .before .before .before .before .run .ensures) in (
-      (ap (λ (x : Ran). x .outcome) (k .0), k .1),
-      (c .before .before .before .before .before .before .keep-run .ensures ∙ rw (k .0), c .before .before .put-run .ensures ∙ rw (k .0)),
+      (ap (λ (x : RunResult). x .outcome) (k .0), k .1),
+      (c .before .before .before .before .before .before .save-run-unless-refused .ensures ∙ rw (k .0), c .before .before .put-run .ensures ∙ rw (k .0)),
     )
 
 pub runnelopal-run-spec : {M : Type 1} → statement M
@@ -43,7 +43,7 @@ runnelopal-run-spec =
     fresh-requires
     fresh-requires-2
     run-requires
-    keep-run-requires
+    save-run-unless-refused-requires
     put-run-requires
     same-length
     same-length-2

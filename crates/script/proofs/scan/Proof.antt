@@ -9,11 +9,11 @@ use Rattle.script.proofs.scan.Tie as tie
 bad-length-requires : tie.Need-bad-length-requires
 bad-length-requires c κs = search needs
 
-refused-requires : tie.Need-refused-requires
-refused-requires c κs = search needs
+refusal-at-requires : tie.Need-refusal-at-requires
+refusal-at-requires c κs = search needs
 
 returns : tie.Need-returns
-returns c = c .refused .ensures ∙ scan-length _ (sym (c .before .before .bad-length .ensures) ∙ c .before .if1 .taken)
+returns c = c .refusal-at .ensures ∙ scan-length _ (sym (c .before .before .bad-length .ensures) ∙ c .before .if1 .taken)
 
 scan-records-requires : tie.Need-scan-records-requires
 scan-records-requires c κs = (few-records (c .before .before .before .args .script .now) (sym (c .before .bad-length .ensures) ∙ c .if1 .left), refl)
@@ -23,12 +23,12 @@ returns-2 c =
     scan-refused _ _ (c .before .before .scan-records .ensures) (sym (c .before .before .before .before .bad-length .ensures) ∙ c .before .before .before .if1 .left)
     (c .if2 .taken)
 
-refused-requires-2 : tie.Need-refused-requires-2
-refused-requires-2 c κs = few-records (c .before .before .before .before .before .before .before .before .args .script .now) (sym (c .before .before .before .before .before .before .bad-length .ensures) ∙ c .before .before .before .before .before .if1 .left)
+refusal-at-requires-2 : tie.Need-refusal-at-requires-2
+refusal-at-requires-2 c κs = few-records (c .before .before .before .before .before .before .before .before .args .script .now) (sym (c .before .before .before .before .before .before .bad-length .ensures) ∙ c .before .before .before .before .before .if1 .left)
 
 returns-3 : tie.Need-returns-3
 returns-3 c =
-    c .refused2 .ensures
+    c .refusal-at2 .ensures
     ∙ scan-long _ _ (c .before .before .before .before .before .scan-records .ensures)
     (sym (c .before .before .before .before .before .before .before .bad-length .ensures) ∙ c .before .before .before .before .before .before .if1 .left)
     (c .before .before .before .if2 .left) (c .before .if3 .taken)
@@ -44,10 +44,10 @@ scan-spec =
     tie.close
     (tie.spec
     bad-length-requires
-    refused-requires
+    refusal-at-requires
     returns
     scan-records-requires
     returns-2
-    refused-requires-2
+    refusal-at-requires-2
     returns-3
     returns-4)

@@ -14,7 +14,7 @@ use Rattle.script.proofs.Scanning.{
   at-most-one,
   faulty,
   further,
-  Going,
+  ScanInvariant,
   good,
   ninth-repeat,
   place-next,
@@ -28,7 +28,8 @@ use Rattle.script.proofs.Scanning.{
   walks,
 }
 use Rattle.script.specs.Records.{recordsFrom}
-use Rattle.script.specs.Refusals.{firstFault, givesWord, recordFault, refusal, repeatsIn}
+use Rattle.script.specs.Refusals.{firstFault, emitsWord, recordFault, repeatsIn}
+use Rattle.outcome.specs.Refusal.{refusal}
 use Rattle.script.specs.Scan.{placeFault}
 use Rattle.script.proofs.scan_records.Statement.{statement}
 use Rattle.script.proofs.scan_records.Tie as tie
@@ -41,7 +42,7 @@ abbrev μ-loop : tie.MeasureT-loop
 μ-loop script count blocks depth words number₀ k kind walk repeats₀ b₀ number repeats b = walk - b
 
 abbrev Inv-scan : tie.InvT-scan
-Inv-scan script count blocks₀ depth₀ words₀ number₀ k₀ blocks depth words number k = Going script count blocks depth words number k
+Inv-scan script count blocks₀ depth₀ words₀ number₀ k₀ blocks depth words number k = ScanInvariant script count blocks depth words number k
 
 abbrev μ-scan : tie.MeasureT-scan
 μ-scan script count blocks₀ depth₀ words₀ number₀ k₀ blocks depth words number k = count - k
@@ -130,8 +131,8 @@ sound c =
     rw (w .ensures) at (rw e at (rw (l .inv .1) at (l .inv .2))) in
     good (s .blocks) (s .depth) r (sym (f .shape-fault .ensures) ∙ j .before .if1 .left) (settled j .0) few
 
-gives-requires : tie.Need-gives-requires Inv-loop μ-loop Inv-scan μ-scan
-gives-requires c κs = c .before .before .before .before .before .before .before .before .before .scan .inv .kept .deep
+emits-word-requires : tie.Need-emits-word-requires Inv-loop μ-loop Inv-scan μ-scan
+emits-word-requires c κs = c .before .before .before .before .before .before .before .before .before .scan .inv .kept .deep
 
 add-words : tie.Need-add-words Inv-loop μ-loop Inv-scan μ-scan
 add-words c =
@@ -139,14 +140,14 @@ add-words c =
     let s = r .before .before in
     omega (
       arith,
-      c .gives .ensures,
-      at-most-one (givesWord (openAt r) (r .read .result .kind)),
+      c .emits-word .ensures,
+      at-most-one (emitsWord (openAt r) (r .read .result .kind)),
       s .scan .inv .few,
       s .before .before .pre .0,
     )
 
-after-requires : tie.Need-after-requires Inv-loop μ-loop Inv-scan μ-scan
-after-requires c κs =
+update-blocks-requires : tie.Need-update-blocks-requires Inv-loop μ-loop Inv-scan μ-scan
+update-blocks-requires c κs =
     let j = c .before .before .before .before .before .before in
     (j .before .before .before .before .before .scan .inv .kept, settled j .0)
 
@@ -162,10 +163,10 @@ scan-again c =
     let j = a .before .before .before in
     let s = j .before .before .before .before .before .scan in
     let r = j .before .before .before .read in
-    rw (c .before .before .gives .ensures)
-    (further _ _ (s .blocks) (s .depth) _ _ _ (s .inv) (r .result) (c .after .last .0) (c .after .result) _
-    (j .before .before .before .before .scan-test .taken) (r .ensures) (c .after .ensures .0)
-    (a .before .loop .inv .3) (sound a) (c .after .ensures .1))
+    rw (c .before .before .emits-word .ensures)
+    (further _ _ (s .blocks) (s .depth) _ _ _ (s .inv) (r .result) (c .update-blocks .last .0) (c .update-blocks .result) _
+    (j .before .before .before .before .scan-test .taken) (r .ensures) (c .update-blocks .ensures .0)
+    (a .before .loop .inv .3) (sound a) (c .update-blocks .ensures .1))
 
 -- how the scan ended: behind the last record, or at a fault
 abbrev Ended : tie.Left-scan Inv-loop μ-loop Inv-scan μ-scan → Type 0
@@ -175,8 +176,8 @@ Ended c =
     ≡ refusal (c .scan-test .number) (c .before .scan .k))
     × (c .scan-test .number ≡ 0 → ⊥))
 
-ended : (c : tie.Left-scan Inv-loop μ-loop Inv-scan μ-scan) → Ended c
-ended c =
+closedByEnd : (c : tie.Left-scan Inv-loop μ-loop Inv-scan μ-scan) → Ended c
+closedByEnd c =
     let s = c .before .scan in
     let g = s .inv in
     ⊎-elim (λ w. inl (w .1 ∙ g .clear, w .0 .left))
@@ -204,19 +205,19 @@ ended c =
     inr (rw (w .10) (f, λ q. omega arith)))))
     (c .scan-test .came)
 
-refused-requires : tie.Need-refused-requires Inv-loop μ-loop Inv-scan μ-scan
-refused-requires c κs = omega (arith, c .before .before .scan .inv .inside, c .before .before .before .before .pre .0)
+refusal-at-requires : tie.Need-refusal-at-requires Inv-loop μ-loop Inv-scan μ-scan
+refusal-at-requires c κs = omega (arith, c .before .before .scan .inv .inside, c .before .before .before .before .pre .0)
 
 returns : tie.Need-returns Inv-loop μ-loop Inv-scan μ-scan
 returns c =
     ⊎-elim (λ w. absurd (c .before .if5 .taken (w .0)))
-    (λ w. c .refused .ensures ∙ scan-faulted _ _ _ _ (c .before .before .before .before .before .pre .1) (w .0) (w .1)) (ended (c .before .before))
+    (λ w. c .refusal-at .ensures ∙ scan-faulted _ _ _ _ (c .before .before .before .before .before .pre .1) (w .0) (w .1)) (closedByEnd (c .before .before))
 
 innermost-requires : tie.Need-innermost-requires Inv-loop μ-loop Inv-scan μ-scan
 innermost-requires c κs = c .before .before .before .scan .inv .kept .deep
 
-refused-requires-2 : tie.Need-refused-requires-2 Inv-loop μ-loop Inv-scan μ-scan
-refused-requires-2 c κs =
+refusal-at-requires-2 : tie.Need-refusal-at-requires-2 Inv-loop μ-loop Inv-scan μ-scan
+refusal-at-requires-2 c κs =
     let s = c .before .before .before .before .before in
     omega (arith, s .scan .inv .inside, s .before .before .pre .0)
 
@@ -225,8 +226,8 @@ returns-2 c =
     let l = c .before .before .before .before .before in
     let s = l .before in
     ⊎-elim
-    (λ w. c .refused2 .ensures ∙ scan-unended _ _ _ _ _ _ _ (s .scan .inv) (w .1) (s .before .before .pre .1) (λ q. c .before .if6 .taken (c .before .before .innermost .ensures ∙ q)))
-    (λ w. absurd (w .1 (c .before .before .before .before .if5 .left))) (ended l)
+    (λ w. c .refusal-at2 .ensures ∙ scan-unended _ _ _ _ _ _ _ (s .scan .inv) (w .1) (s .before .before .pre .1) (λ q. c .before .if6 .taken (c .before .before .innermost .ensures ∙ q)))
+    (λ w. absurd (w .1 (c .before .before .before .before .if5 .left))) (closedByEnd l)
 
 returns-3 : tie.Need-returns-3 Inv-loop μ-loop Inv-scan μ-scan
 returns-3 c =
@@ -234,7 +235,7 @@ returns-3 c =
     let s = l .before in
     ⊎-elim
     (λ w. scan-done _ _ _ _ _ _ _ (s .scan .inv) (w .1) (s .before .before .pre .1) (sym (c .before .innermost .ensures) ∙ c .if6 .left))
-    (λ w. absurd (w .1 (c .before .before .before .if5 .left))) (ended l)
+    (λ w. absurd (w .1 (c .before .before .before .if5 .left))) (closedByEnd l)
 
 pub scan-records-spec : {M : Type 1} → statement M
 scan-records-spec =
@@ -257,15 +258,15 @@ scan-records-spec =
     add-b
     loop-less
     loop-again
-    gives-requires
+    emits-word-requires
     add-words
-    after-requires
+    update-blocks-requires
     add-k
     scan-less
     scan-again
-    refused-requires
+    refusal-at-requires
     returns
     innermost-requires
-    refused-requires-2
+    refusal-at-requires-2
     returns-2
     returns-3)

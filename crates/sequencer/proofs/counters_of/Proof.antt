@@ -1,5 +1,5 @@
 -- `sequencer::counters_of` meets its contract. Assumes nothing.
-use Rattle.machine.proofs.Laid.{counters-laid}
+use Rattle.step.proofs.CounterArray.{counters-array}
 use borrow.Author.Needs.{needs}
 use Rattle.sequencer.proofs.counters_of.Statement.{statement}
 use Rattle.sequencer.proofs.counters_of.Tie as tie
@@ -29,7 +29,7 @@ array-read-t26 : tie.Need-array-read-t26
 array-read-t26 c = search needs
 
 returns : tie.Need-returns
-returns c = counters-laid (c .before .args .sequencer) (c .before .pre)
+returns c = counters-array (c .before .args .sequencer) (c .before .pre)
 
 pub counters-of-spec : {M : Type 1} → statement M
 counters-of-spec =

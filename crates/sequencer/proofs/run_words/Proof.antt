@@ -10,20 +10,20 @@ use lib.ListN.{drop, length}
 use Rattle.device.specs.Event.{applyEvent}
 use Rattle.device.specs.Dispatch.{deviceAccess}
 use Rattle.device.specs.declared.AccessResult.{AccessResult}
-use Rattle.machine.proofs.EachKind.{delayed-by}
-use Rattle.machine.proofs.Events.{next-none, next-there}
-use Rattle.machine.proofs.Faults.{can-access, can-delay, can-turn}
-use Rattle.machine.specs.Holds.{Does, Running, running}
-use Rattle.machine.specs.Sequencer.{countersOf, laid}
-use Rattle.machine.specs.Step.{wordFault}
-use Rattle.machine.specs.Word.{imageWords}
-use Rattle.machine.specs.declared.Sequencer.{Sequencer}
+use Rattle.step.proofs.EachKind.{after-delay-by}
+use Rattle.step.proofs.Events.{next-none, next-there}
+use Rattle.step.proofs.Faults.{access-ready, delay-ready, control-ready}
+use Rattle.step.specs.Represents.{Implements, RunState, runState}
+use Rattle.step.specs.Sequencer.{countersOf, counterArray}
+use Rattle.step.specs.Step.{wordFault}
+use Rattle.step.specs.Word.{imageWords}
+use Rattle.step.specs.declared.Sequencer.{Sequencer}
 use Rattle.record.specs.declared.Record.{Record}
-use Rattle.semantics.specs.World.{nextApplied}
+use Rattle.semantics.specs.World.{afterNextEvent}
 use Rattle.sequencer.specs.Ends.{Starts}
 use Rattle.sequencer.specs.Run.{imageRun}
-use Rattle.sequencer.proofs.Going.{
-  Going,
+use Rattle.sequencer.proofs.LoopInvariant.{
+  LoopInvariant,
   Looked,
   faulted,
   further,
@@ -38,9 +38,9 @@ use Rattle.sequencer.proofs.run_words.Tie as tie
 
 abbrev Inv-loop : tie.InvT-loop
 Inv-loop image events budget log₀ words last₀ x₀ counters₀ steps₀ log last x counters steps =
-    (s : Sequencer) → Starts s x₀ → counters₀ ≡ laid (countersOf s)
-    → Going image (imageRun image (last₀ .device) s events budget (length log₀)) events log₀ budget log
-    (running (last .device) x counters) steps
+    (s : Sequencer) → Starts s x₀ → counters₀ ≡ counterArray (countersOf s)
+    → LoopInvariant image (imageRun image (last₀ .device) s events budget (length log₀)) events log₀ budget log
+    (runState (last .device) x counters) steps
 
 abbrev μ-loop : tie.MeasureT-loop
 μ-loop image events budget log₀ words last₀ x₀ counters₀ steps₀ log last x counters steps = budget - steps
@@ -68,14 +68,14 @@ head-of f = f .before .before .before .before .before .before
 abbrev fetch-of : Executes → Fetched
 fetch-of w = w .before .before .before
 
-abbrev state : Head → Running
-state l = running (l .loop .last .device) (l .loop .x) (l .loop .counters)
+abbrev state : Head → RunState
+state l = runState (l .loop .last .device) (l .loop .x) (l .loop .counters)
 
 -- ---- what is known at the loop's head
-abbrev Invariant : Head → Sequencer → List ℕ → Running → ℕ → Type 0
+abbrev Invariant : Head → Sequencer → List ℕ → RunState → ℕ → Type 0
 Invariant l s log y steps =
     let a = start-of l .args in
-    Going (a .image .now) (imageRun (a .image .now) (a .device) s (a .events .now) (a .budget) (length (a .log .now)))
+    LoopInvariant (a .image .now) (imageRun (a .image .now) (a .device) s (a .events .now) (a .budget) (length (a .log .now)))
     (a .events .now) (a .log .now) (a .budget) log y steps
 
 invariant : (l : Head) → Invariant l (start-of l .args .sequencer) (l .loop .log) (state l) (l .loop .steps)
@@ -109,10 +109,10 @@ faultless : (w : Executes)
 faultless w = sym (fetch-of w .fault .ensures) ∙ w .before .before .if2 .left
 
 -- the run goes on with what the word does
-next-word : (w : Executes) {y : Running} {log : List ℕ}
-    → Does (word (fetch-of w)) (start-of (executed-at w) .args .events .now) (state (executed-at w)) (executed-at w .loop .log) y log
+next-word : (w : Executes) {y : RunState} {log : List ℕ}
+    → Implements (word (fetch-of w)) (start-of (executed-at w) .args .events .now) (state (executed-at w)) (executed-at w .loop .log) y log
     → length log ≡ length (executed-at w .loop .log) → (s : Sequencer) → Starts s (executed-at w .before .before .start .result)
-    → executed-at w .before .counters-of .result ≡ laid (countersOf s)
+    → executed-at w .before .counters-of .result ≡ counterArray (countersOf s)
     → Invariant (executed-at w) s log y (executed-at w .loop .steps + 1)
 next-word w does same s h q =
     let f = fetch-of w in
@@ -145,8 +145,8 @@ loop-holds : tie.Need-loop-holds Inv-loop μ-loop
 loop-holds c = λ s h q. starts _ _ s _ _ _ _ _ h q
 
 -- ---- the place is beyond the last word
-ended-requires : tie.Need-ended-requires Inv-loop μ-loop
-ended-requires c κs = search needs
+run-result-requires : tie.Need-run-result-requires Inv-loop μ-loop
+run-result-requires c κs = search needs
 
 same-length : tie.Need-same-length Inv-loop μ-loop
 same-length c = invariant (c .before .before .before .before) .same
@@ -154,7 +154,7 @@ same-length c = invariant (c .before .before .before .before) .same
 returns : tie.Need-returns Inv-loop μ-loop
 returns c =
     place-beyond _ (invariant (c .before .before .before .before)) (c .before .before .before .loop-test .taken) (c .before .if1 .taken)
-    (c .ended .ensures)
+    (c .run-result .ensures)
 
 -- ---- the word is read; it faults
 index-requires : tie.Need-index-requires Inv-loop μ-loop
@@ -169,8 +169,8 @@ read-requires c κs = omega (arith, c .index .ensures)
 fault-requires : tie.Need-fault-requires Inv-loop μ-loop
 fault-requires c κs = search needs
 
-ended-requires-2 : tie.Need-ended-requires-2 Inv-loop μ-loop
-ended-requires-2 c κs = search needs
+run-result-requires-2 : tie.Need-run-result-requires-2 Inv-loop μ-loop
+run-result-requires-2 c κs = search needs
 
 same-length-2 : tie.Need-same-length-2 Inv-loop μ-loop
 same-length-2 c = invariant (head-of (c .before .before)) .same
@@ -178,14 +178,14 @@ same-length-2 c = invariant (head-of (c .before .before)) .same
 returns-2 : tie.Need-returns-2 Inv-loop μ-loop
 returns-2 c =
     let f = c .before .before in
-    faulted _ (invariant (head-of f)) (in-budget f) (word-looked f) (c .before .if2 .taken) (c .ended2 .ensures)
+    faulted _ (invariant (head-of f)) (in-budget f) (word-looked f) (c .before .if2 .taken) (c .run-result2 .ensures)
 
 -- ---- it halts
-add-ended : tie.Need-add-ended Inv-loop μ-loop
-add-ended c = let p = countable (c .before .before .before) in omega (arith, p)
+add-run-result : tie.Need-add-run-result Inv-loop μ-loop
+add-run-result c = let p = countable (c .before .before .before) in omega (arith, p)
 
-ended-requires-3 : tie.Need-ended-requires-3 Inv-loop μ-loop
-ended-requires-3 c κs = search needs
+run-result-requires-3 : tie.Need-run-result-requires-3 Inv-loop μ-loop
+run-result-requires-3 c κs = search needs
 
 same-length-3 : tie.Need-same-length-3 Inv-loop μ-loop
 same-length-3 c = invariant (head-of (c .before .before .before .before)) .same
@@ -194,35 +194,35 @@ returns-3 : tie.Need-returns-3 Inv-loop μ-loop
 returns-3 c =
     let f = c .before .before .before .before in
     halted _ (invariant (head-of f)) (in-budget f) (word-looked f) (c .before .before .before .if2 .left) (c .before .if3 .taken)
-    (c .ended3 .ensures)
+    (c .run-result3 .ensures)
 
 -- ---- it moves the place and the counters alone
-turns-requires : tie.Need-turns-requires Inv-loop μ-loop
-turns-requires c κs = search needs
+is-control-requires : tie.Need-is-control-requires Inv-loop μ-loop
+is-control-requires c κs = search needs
 
-turned-requires : tie.Need-turned-requires Inv-loop μ-loop
-turned-requires c κs =
+execute-control-requires : tie.Need-execute-control-requires Inv-loop μ-loop
+execute-control-requires c κs =
     let w = turn-of (c .before) in
     let x = executed-at w .loop .x in
     let g = invariant (executed-at w) .holds in
-    let t = sym (c .before .before .turns .ensures) ∙ c .before .if4 .taken in
-    (place-small (fetch-of w), can-turn _ _ x (word (fetch-of w)) (faultless w) (omega (arith, g .used, g .few)) t)
+    let t = sym (c .before .before .is-control .ensures) ∙ c .before .if4 .taken in
+    (place-small (fetch-of w), control-ready _ _ x (word (fetch-of w)) (faultless w) (omega (arith, g .used, g .few)) t)
 
-counted-requires : tie.Need-counted-requires Inv-loop μ-loop
-counted-requires c κs = countable (fetch-of (turn-of (c .before .before)))
+count-step-requires : tie.Need-count-step-requires Inv-loop μ-loop
+count-step-requires c κs = countable (fetch-of (turn-of (c .before .before)))
 
 loop-less : tie.Need-loop-less Inv-loop μ-loop
-loop-less c = omega (arith, c .counted .ensures, in-budget (fetch-of (turn-of (c .before .before .before))))
+loop-less c = omega (arith, c .count-step .ensures, in-budget (fetch-of (turn-of (c .before .before .before))))
 
 loop-again : tie.Need-loop-again Inv-loop μ-loop
 loop-again c = λ s h q.
-    rw (c .counted .ensures) (next-word (turn-of (c .before .before .before)) (c .before .turned .ensures _ _ _) refl s h q)
+    rw (c .count-step .ensures) (next-word (turn-of (c .before .before .before)) (c .before .execute-control .ensures _ _ _) refl s h q)
 
 -- ---- it delays
 tick-event-requires : tie.Need-tick-event-requires Inv-loop μ-loop
 tick-event-requires c κs =
     let w = delay-of c in
-    can-delay _ _ (executed-at w .loop .x) (word (fetch-of w)) (faultless w) (c .if5 .taken)
+    delay-ready _ _ (executed-at w .loop .x) (word (fetch-of w)) (faultless w) (c .if5 .taken)
 
 apply-event-requires : tie.Need-apply-event-requires Inv-loop μ-loop
 apply-event-requires c κs = search needs
@@ -230,19 +230,19 @@ apply-event-requires c κs = search needs
 add-x : tie.Need-add-x Inv-loop μ-loop
 add-x c = let p = place-small (fetch-of (delay-of (c .before .before .before))) in omega (arith, p)
 
-counted-requires-2 : tie.Need-counted-requires-2 Inv-loop μ-loop
-counted-requires-2 c κs = countable (fetch-of (delay-of (c .before .before .before)))
+count-step-requires-2 : tie.Need-count-step-requires-2 Inv-loop μ-loop
+count-step-requires-2 c κs = countable (fetch-of (delay-of (c .before .before .before)))
 
 loop-less-2 : tie.Need-loop-less-2 Inv-loop μ-loop
-loop-less-2 c = omega (arith, c .counted2 .ensures, in-budget (fetch-of (delay-of (c .before .before .before .before))))
+loop-less-2 c = omega (arith, c .count-step2 .ensures, in-budget (fetch-of (delay-of (c .before .before .before .before))))
 
 loop-again-2 : tie.Need-loop-again-2 Inv-loop μ-loop
 loop-again-2 c = λ s h q.
     let t = c .before .before .before .before in
     let w = delay-of t in
     let ticked = c .before .before .apply-event .ensures ∙ ap (applyEvent _) (c .before .before .before .tick-event .ensures) in
-    rw (c .counted2 .ensures)
-    (next-word w (delayed-by (word (fetch-of w)) (state (executed-at w)) _ (t .if5 .taken) ticked _ _) refl s h q)
+    rw (c .count-step2 .ensures)
+    (next-word w (after-delay-by (word (fetch-of w)) (state (executed-at w)) _ (t .if5 .taken) ticked _ _) refl s h q)
 
 -- ---- it accesses the device, after the next event
 mul-apply-event : tie.Need-mul-apply-event Inv-loop μ-loop
@@ -259,7 +259,7 @@ apply-event-requires-2 c κs = search needs
 arrived :
     (j : tie.Joined6 Inv-loop μ-loop)
     → let l = executed-at (access-of (j .before)) in
-    j .if6 .last .device ≡ nextApplied (l .loop .last .device) (drop (l .loop .x .taken) (start-of l .args .events .now))
+    j .if6 .last .device ≡ afterNextEvent (l .loop .last .device) (drop (l .loop .x .taken) (start-of l .args .events .now))
 arrived j =
     ⊎-elim
     (λ (test, element, event, next). ap (λ (r : AccessResult). r .device) next ∙ event .ensures ∙ sym (next-there _ _ _ (test .taken)))
@@ -272,19 +272,19 @@ access-of-requires c κs = search needs
 access-requires : tie.Need-access-requires Inv-loop μ-loop
 access-requires c κs = search needs
 
-answered-requires : tie.Need-answered-requires Inv-loop μ-loop
-answered-requires c κs =
+apply-answer-requires : tie.Need-apply-answer-requires Inv-loop μ-loop
+apply-answer-requires c κs =
     let t = c .before .before .before .before in
     let w = access-of t in
     let l = executed-at w in
-    let turns = sym (t .before .before .before .turns .ensures) ∙ t .before .before .if4 .left in
-    (place-small (fetch-of w), invariant l .holds .inside, can-access _ (l .loop .x) (word (fetch-of w)) (l .loop .log) (faultless w) turns (w .if3 .left) (t .if5 .left))
+    let isControl = sym (t .before .before .before .is-control .ensures) ∙ t .before .before .if4 .left in
+    (place-small (fetch-of w), invariant l .holds .inside, access-ready _ (l .loop .x) (word (fetch-of w)) (l .loop .log) (faultless w) isControl (w .if3 .left) (t .if5 .left))
 
-counted-requires-3 : tie.Need-counted-requires-3 Inv-loop μ-loop
-counted-requires-3 c κs = countable (fetch-of (access-of (c .before .before .before .before .before .before .before)))
+count-step-requires-3 : tie.Need-count-step-requires-3 Inv-loop μ-loop
+count-step-requires-3 c κs = countable (fetch-of (access-of (c .before .before .before .before .before .before .before)))
 
 loop-less-3 : tie.Need-loop-less-3 Inv-loop μ-loop
-loop-less-3 c = omega (arith, c .counted3 .ensures, in-budget (fetch-of (access-of (c .before .before .before .before .before .before .before .before))))
+loop-less-3 c = omega (arith, c .count-step3 .ensures, in-budget (fetch-of (access-of (c .before .before .before .before .before .before .before .before))))
 
 loop-again-3 : tie.Need-loop-again-3 Inv-loop μ-loop
 loop-again-3 c = λ s h q.
@@ -292,18 +292,18 @@ loop-again-3 c = λ s h q.
     let access = answer .before .before in
     let t = access .before .before .before in
     let done = access .access .ensures ∙ ap (deviceAccess _) (access .before .access-of .ensures) in
-    rw (c .counted3 .ensures)
-    (next-word (access-of t) (answer .answered .ensures _ _ _ _ (arrived (access .before .before)) done refl) (answer .answered .kept .1 .1 .1 .1 .0) s h q)
+    rw (c .count-step3 .ensures)
+    (next-word (access-of t) (answer .apply-answer .ensures _ _ _ _ (arrived (access .before .before)) done refl) (answer .apply-answer .kept .1 .1 .1 .1 .0) s h q)
 
 -- ---- the budget is spent
-ended-requires-4 : tie.Need-ended-requires-4 Inv-loop μ-loop
-ended-requires-4 c κs = search needs
+run-result-requires-4 : tie.Need-run-result-requires-4 Inv-loop μ-loop
+run-result-requires-4 c κs = search needs
 
 same-length-4 : tie.Need-same-length-4 Inv-loop μ-loop
 same-length-4 c = invariant (c .before .before) .same
 
 returns-4 : tie.Need-returns-4 Inv-loop μ-loop
-returns-4 c = spent _ (invariant (c .before .before)) (c .before .loop-test .left) (c .ended4 .ensures)
+returns-4 c = spent _ (invariant (c .before .before)) (c .before .loop-test .left) (c .run-result4 .ensures)
 
 pub run-words-spec : {M : Type 1} → statement M
 run-words-spec =
@@ -316,29 +316,29 @@ run-words-spec =
     start-requires
     counters-of-requires
     loop-holds
-    ended-requires
+    run-result-requires
     same-length
     returns
     index-requires
     mul-read
     read-requires
     fault-requires
-    ended-requires-2
+    run-result-requires-2
     same-length-2
     returns-2
-    add-ended
-    ended-requires-3
+    add-run-result
+    run-result-requires-3
     same-length-3
     returns-3
-    turns-requires
-    turned-requires
-    counted-requires
+    is-control-requires
+    execute-control-requires
+    count-step-requires
     loop-less
     loop-again
     tick-event-requires
     apply-event-requires
     add-x
-    counted-requires-2
+    count-step-requires-2
     loop-less-2
     loop-again-2
     mul-apply-event
@@ -346,10 +346,10 @@ run-words-spec =
     apply-event-requires-2
     access-of-requires
     access-requires
-    answered-requires
-    counted-requires-3
+    apply-answer-requires
+    count-step-requires-3
     loop-less-3
     loop-again-3
-    ended-requires-4
+    run-result-requires-4
     same-length-4
     returns-4)

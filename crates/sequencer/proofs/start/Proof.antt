@@ -1,6 +1,6 @@
 -- `sequencer::start` meets its contract. Assumes nothing.
 use native.Mathlib.Omega.{arith}
-use Rattle.machine.proofs.Laid.{used-few, used-length}
+use Rattle.step.proofs.CounterArray.{used-few, used-length}
 use mathlib.Core.Path.{refl}
 use Rattle.sequencer.proofs.start.Statement.{statement}
 use Rattle.sequencer.proofs.start.Tie as tie

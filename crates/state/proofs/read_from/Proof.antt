@@ -13,7 +13,7 @@ use Rattle.key.specs.declared.Key.{Key}
 use Rattle.monitor.specs.Saved.{monitorFrom, monitorSaved}
 use Rattle.monitor.specs.declared.Monitor.{Monitor}
 use Rattle.state.specs.State.{acpiStart, deviceFrom, keyStart, loadedFrom, monitorStart, part}
-use Rattle.state.specs.declared.Loaded.{Loaded}
+use Rattle.state.specs.declared.LoadResult.{LoadResult}
 use Rattle.state.proofs.read_from.Statement.{statement}
 use Rattle.state.proofs.read_from.Tie as tie
 
@@ -22,12 +22,12 @@ loads :
     (bytes : List ℕ) (g : Config) (a : Acpi) (m : Monitor) (k : Key) (p q r : Bool) → g ≡ configFrom (part 0 9 bytes)
     → a ≡ acpiFrom (part acpiStart 45 bytes) → m ≡ monitorFrom (part monitorStart 20 bytes) → k ≡ keyFrom (part keyStart 32 bytes)
     → p ≡ configSaved (part 0 9 bytes) → q ≡ monitorSaved (part monitorStart 20 bytes) → r ≡ acpiSaved (part acpiStart 45 bytes)
-    → _≡_ {A = Loaded} (record { valid = p && (q && r); device = record { config = g; acpi = a; monitor = m; key = k } })
+    → _≡_ {A = LoadResult} (record { valid = p && (q && r); device = record { config = g; acpi = a; monitor = m; key = k } })
     (loadedFrom bytes)
 unfolding loadedFrom
 loads bytes g a m k p q r eg ea em ek ep eq er =
     rw (eg, ea, em, ek, ep, eq, er)
-    (ap {B = Loaded}
+    (ap {B = LoadResult}
     (λ (b : Bool). record {
       valid = configSaved (part 0 9 bytes) && (monitorSaved (part monitorStart 20 bytes) && b);
       device = deviceFrom bytes;

@@ -4,15 +4,15 @@ use Rattle.key.specs.Key.{keyRead}
 use Rattle.key.proofs.Key.read.Statement.{statement}
 use Rattle.key.proofs.Key.read.Tie as tie
 
-has-requires : tie.Need-has-requires
-has-requires c κs = search needs
+has8-requires : tie.Need-has8-requires
+has8-requires c κs = search needs
 
 status-only-requires : tie.Need-status-only-requires
 status-only-requires c κs = search needs
 
 returns : tie.Need-returns
 unfolding keyRead
-returns c = rw (← (c .before .before .has .ensures), c .before .if1 .taken) (c .status-only .ensures)
+returns c = rw (← (c .before .before .has8 .ensures), c .before .if1 .taken) (c .status-only .ensures)
 
 element-copy-out-wide8 : tie.Need-element-copy-out-wide8
 element-copy-out-wide8 c = search needs
@@ -27,7 +27,7 @@ returns-2 : tie.Need-returns-2
 unfolding keyRead
 returns-2 c =
     rw (
-      ← (c .before .before .before .before .has .ensures),
+      ← (c .before .before .before .before .has8 .ensures),
       c .before .before .before .if1 .left,
       c .done .ensures,
       c .before .wide8 .ensures,
@@ -37,7 +37,7 @@ pub read-spec : {M : Type 1} → statement M
 read-spec =
     tie.close
     (tie.spec
-    has-requires
+    has8-requires
     status-only-requires
     returns
     element-copy-out-wide8

@@ -1,0 +1,43 @@
+-- Demand 3 holds: the compiled image does exactly what the nested script says, and the compiler refuses exactly what it
+-- must. Assumes nothing.
+use mathlib.Core.Path.{refl, ap, _∙_}
+use lib.ListN.{length}
+use Rattle.compiler.proofs.Compiling.{accepts-all, refuses-not}
+use Rattle.script.proofs.Flat.{accepted-by, accepts, reading-flat}
+use Rattle.script.specs.Nested.{scriptBody}
+use Rattle.script.specs.Records.{recordsOf}
+use Rattle.semantics.proofs.Events.{one-event-each}
+use Rattle.semantics.specs.OwnRun.{scriptRun}
+use Rattle.sequencer.specs.Run.{RunEnd, logAfter, runAnswer}
+use Rattle.correct.specs.CompilerCorrect.{CompilerCorrect}
+use Rattle.correct.proofs.Fills.{events-left, front, rest}
+use Rattle.correct.proofs.CompileAndRun.{none-refused, whole-run}
+
+pub compiler-correct : CompilerCorrect
+unfolding runAnswer logAfter scriptBody
+compiler-correct = record {
+  sameRun = λ script buffer d events budget log bytes accepted inRange good room steps.
+      let e = whole-run script buffer d events budget log bytes accepted room steps in
+      let n = none-refused script buffer d events accepted inRange good in
+      let own = scriptRun script d events in
+      record {
+        halted = rw (n, e);
+        onLastWord = rw (n, e);
+        noCounterInUse = rw (n, e);
+        sameAccesses = ap (λ (x : RunEnd). x .machine .world .accesses) e;
+        sameValues = rw (n, e) (front (own .world .logged) log);
+        restAsLent = rw (n, e) (rest (own .world .logged) log);
+        sameLogged = rw (n, e);
+        sameDevice = rw (n, e);
+        sameEventsLeft = rw (n, e) (events-left events (own .world .events) (length (own .world .accesses)) (one-event-each script d events));
+        sameSteps = rw (n, e);
+      };
+  sameRecords = λ script h. reading-flat (recordsOf script) (accepts script h .faultless);
+  acceptedExactly = λ script buffer. (
+    λ h.
+        let r = refuses-not script buffer h in
+        let a = accepts script (r .0) in
+        (a .length-good, a .faultless, a .few-words, r .1),
+    λ h. accepts-all script buffer (accepted-by script (h .0) (h .1) (h .2)) (h .3),
+  );
+}

@@ -1,0 +1,48 @@
+-- Compiling and running in one call, told by the script's own run wherever the log and the budget hold it.
+use Prim.Native.Nat.{ℕ, _-_}
+use mathlib.Core.Bool.{Bool, cond, _&&_}
+use mathlib.Core.List.{List, []}
+use lib.Dec.{eqb, leb}
+use lib.ListN.{length}
+use Rattle.compiler.specs.Words.{imageBytes, wordsOf}
+use Rattle.device.specs.Device.{deviceInRange}
+use Rattle.device.specs.declared.Device.{Device}
+use Rattle.script.specs.Refusals.{scriptRefusal, wordsIn}
+use Rattle.outcome.specs.Refusal.{refusal}
+use Rattle.outcome.specs.declared.Refusal.{Refusal}
+use Rattle.semantics.specs.OwnRun.{Run, scriptRun}
+use Rattle.sequencer.specs.Run.{RunEnd, runResult, runEnd, eventsRefusal, imageRun, refusedRun}
+use Rattle.step.specs.Step.{logFilled}
+use Rattle.step.specs.Sequencer.{freshSequencer}
+use Rattle.step.specs.Step.{machine}
+use Rattle.sequencer.specs.declared.RunResult.{RunResult}
+
+-- the compiler's refusals 1 to 8, then 11 for the device, then 12
+unfoldable pub wholeRefusal : List ℕ → Device → List ℕ → Refusal
+wholeRefusal script d events =
+    cond (eqb (scriptRefusal script .number) 0) (cond (deviceInRange d) (eventsRefusal events) (refusal 11 0))
+    (scriptRefusal script)
+
+-- "Whenever the log has room for the values that run logs, and the budget is no smaller than its step count"
+abbrev pub suffices : Run → (budget room : ℕ) → Bool
+suffices own budget room = leb (length (own .world .logged)) room && leb (own .steps) budget
+
+-- the script's own run as an image's end: halted, on the last word, no counter in use
+abbrev pub ownEnd : List ℕ → Run → RunEnd
+ownEnd script own = runEnd 0 (own .steps) (machine (wordsIn script - 1) [] (own .world))
+
+-- the script's own run; only where the log or the budget ends it before its end it is told by the words
+unfoldable pub wholeEnd : List ℕ → Device → List ℕ → (budget room : ℕ) → RunEnd
+wholeEnd script d events budget room =
+    cond (suffices (scriptRun script d events) budget room) (ownEnd script (scriptRun script d events))
+    (imageRun (imageBytes (wordsOf script)) d freshSequencer events budget room)
+
+unfoldable pub wholeAnswer : List ℕ → Device → List ℕ → ℕ → List ℕ → RunResult
+wholeAnswer script d events budget log =
+    cond (eqb (wholeRefusal script d events .number) 0) (runResult events (wholeEnd script d events budget (length log)))
+    (refusedRun (wholeRefusal script d events) d freshSequencer)
+
+unfoldable pub wholeLog : List ℕ → Device → List ℕ → ℕ → List ℕ → List ℕ
+wholeLog script d events budget log =
+    cond (eqb (wholeRefusal script d events .number) 0)
+    (logFilled (wholeEnd script d events budget (length log) .machine .world .logged) log) log

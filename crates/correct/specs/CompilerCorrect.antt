@@ -1,0 +1,61 @@
+-- Demand 3: the compiled image does exactly what the nested script says. One claim, over the bytes that the compiler writes
+-- and the nested reading of the bytes that it was given; and the compiler refuses exactly what it must.
+use Prim.Native.Nat.{ℕ, _*_, _-_, _≤_, _<_}
+use mathlib.Core.Path.{_≡_}
+use mathlib.Core.Logic.{_↔_}
+use mathlib.Core.Bool.{true, false}
+use mathlib.Core.List.{List, []}
+use lib.ListN.{drop, getD, length, take}
+use Rattle.compiler.specs.Compile.{compileResult, imageAfter}
+use Rattle.device.specs.Device.{deviceInRange}
+use Rattle.device.specs.declared.Device.{Device}
+use Rattle.record.specs.Record.{mostRecords, recordSize}
+use Rattle.script.specs.Nested.{flat, scriptBody}
+use Rattle.script.specs.Records.{recordsOf}
+use Rattle.script.specs.Refusals.{badLength, firstFault, scriptRefusal, wordsIn}
+use Rattle.semantics.specs.OwnRun.{Run, scriptRun}
+use Rattle.sequencer.specs.Run.{RunEnd, eventsRefusal, imageRun, logAfter, runAnswer}
+use Rattle.step.specs.Sequencer.{freshSequencer}
+use Rattle.sequencer.specs.declared.RunResult.{RunResult}
+
+-- a script is bytes: of a `&[u8]` that is a fact, so the call `compile_and_run` has no such premise
+abbrev pub Bytes : List ℕ → Type 0
+Bytes bs = (k : ℕ) → getD bs k 0 < 256
+
+-- "the words written for the script and nothing more"
+abbrev pub wordsWritten : List ℕ → List ℕ → List ℕ
+wordsWritten script buffer = take (recordSize * compileResult script buffer .words) (imageAfter script buffer)
+
+-- the script's own run beside what the run of its image answers, leaves in the log, and the accesses that it made
+pub record SameRun (own : Run) (answer : RunResult) (image : RunEnd) (words : ℕ) (events lent log : List ℕ) : Type 0 where
+  pub halted : answer .outcome ≡ 0
+  pub onLastWord : answer .sequencer .place ≡ words - 1
+  pub noCounterInUse : answer .sequencer .used ≡ 0
+  pub sameAccesses : image .machine .world .accesses ≡ own .world .accesses
+  pub sameValues : take (length (own .world .logged)) log ≡ own .world .logged
+  pub restAsLent : drop (length (own .world .logged)) log ≡ drop (length (own .world .logged)) lent
+  pub sameLogged : answer .logged ≡ length (own .world .logged)
+  pub sameDevice : answer .device ≡ own .world .device
+  pub sameEventsLeft : drop (answer .taken) events ≡ own .world .events
+  pub sameSteps : answer .steps ≡ own .steps
+
+pub record CompilerCorrect : Type 0 where
+  -- the run of the words written is the script's own run, wherever the log and the budget hold it
+  pub sameRun :
+      (script buffer : List ℕ) (d : Device) (events : List ℕ) (budget : ℕ) (log : List ℕ) → Bytes script
+      → compileResult script buffer .refusal ≡ 0 → deviceInRange d ≡ true → eventsRefusal events .number ≡ 0
+      → length (scriptRun script d events .world .logged) ≤ length log → scriptRun script d events .steps ≤ budget
+      → SameRun (scriptRun script d events) (runAnswer (wordsWritten script buffer) d freshSequencer events budget log)
+      (imageRun (wordsWritten script buffer) d freshSequencer events budget (length log)) (compileResult script buffer .words)
+      events log (logAfter (wordsWritten script buffer) d freshSequencer events budget log)
+  -- the nested reading of an accepted script has its records, all of them and in their order
+  pub sameRecords :
+      (script : List ℕ) → scriptRefusal script .number ≡ 0 → recordsOf script ≡ flat (scriptBody script) []
+  -- the compiler takes a script exactly when none of refusals 1, 2 to 7 and 8 holds of it and the buffer holds its words
+  pub acceptedExactly :
+      (script buffer : List ℕ)
+      → (compileResult script buffer .refusal ≡ 0)
+      ↔ ((badLength script ≡ false)
+      × (firstFault [] 0 (recordsOf script) .number ≡ 0)
+      × (wordsIn script ≤ mostRecords)
+      × (recordSize * wordsIn script ≤ length buffer))

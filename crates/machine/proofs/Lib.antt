@@ -1,4 +1,0 @@
-pub mod Events
-pub mod Laid
-pub mod EachKind
-pub mod Faults

@@ -1,4 +1,0 @@
-pub mod Word
-pub mod Step
-pub mod Sequencer
-pub mod Holds

@@ -1,0 +1,4 @@
+pub mod Events
+pub mod CounterArray
+pub mod EachKind
+pub mod Faults

@@ -1,0 +1,12 @@
+-- `step::execute::Position::jump` meets its contract. Assumes nothing.
+use Rattle.step.specs.Represents.{runState}
+use Rattle.step.proofs.EachKind.{jumped}
+use Rattle.step.proofs.execute.Position.jump.Statement.{statement}
+use Rattle.step.proofs.execute.Position.jump.Tie as tie
+
+returns : tie.Need-returns
+returns c = λ cs d.
+    jumped (c .args .word) (runState d (c .args .self) cs) (c .pre)
+
+pub jump-spec : {M : Type 1} → statement M
+jump-spec = tie.close (tie.spec returns)

@@ -1,0 +1,4 @@
+pub mod Word
+pub mod Step
+pub mod Sequencer
+pub mod Represents

@@ -1,0 +1,98 @@
+-- The code's running state and the definitions' machine are the same thing.
+use Prim.Native.Nat.{ℕ, _≤_, _<_}
+use mathlib.Core.Path.{_≡_}
+use mathlib.Core.Bool.{Bool, cond, _||_}
+use mathlib.Core.List.{List}
+use lib.Dec.{eqb}
+use lib.ListN.{drop, length}
+use Rattle.access.specs.declared.Access.{Access}
+use Rattle.device.specs.Dispatch.{deviceAccess}
+use Rattle.device.specs.declared.Device.{Device}
+use Rattle.device.specs.declared.AccessResult.{AccessResult}
+use Rattle.semantics.specs.World.{afterNextEvent, readOf, writeOf}
+use Rattle.record.specs.declared.Record.{Record}
+use Rattle.step.specs.Sequencer.{counterArray, counterCount}
+use Rattle.step.specs.Step.{Machine, execute, logFilled}
+use Rattle.step.specs.declared.execute.Position.{Position}
+use Rattle.step.specs.declared.execute.ControlResult.{ControlResult}
+
+-- a run on its way: the device, and where it stands
+pub record RunState : Type 0 where
+  pub device : Device
+  pub place : ℕ
+  pub counters : List ℕ
+  pub used : ℕ
+  pub taken : ℕ
+  pub logged : ℕ
+
+abbrev pub runState : Device → Position → List ℕ → RunState
+runState d x cs = record {
+  device = d;
+  place = x .place;
+  counters = cs;
+  used = x .used;
+  taken = x .taken;
+  logged = x .logged;
+}
+
+-- an enter, a loop end, a jump
+abbrev pub isControl : Record → Bool
+isControl r = eqb (r .kind) 4 || (eqb (r .kind) 5 || eqb (r .kind) 7)
+
+pub record Represents (x : RunState) (events lent log : List ℕ) (m : Machine) : Type 0 where
+  pub device : x .device ≡ m .world .device
+  pub place : x .place ≡ m .place
+  pub counters : x .counters ≡ counterArray (m .counters)
+  pub used : x .used ≡ length (m .counters)
+  pub few : length (m .counters) ≤ counterCount
+  pub taken : drop (x .taken) events ≡ m .world .events
+  pub inside : x .taken ≤ length events
+  pub logged : x .logged ≡ length (m .world .logged)
+  pub lines : log ≡ logFilled (m .world .logged) lent
+
+-- what the code does to its state, and to the log, is what the word does to the machine
+abbrev pub Implements : Record → List ℕ → RunState → List ℕ → RunState → List ℕ → Type 0
+Implements word events x log y log' =
+    (lent : List ℕ) (m : Machine) → Represents x events lent log m → Represents y events lent log' (execute word m)
+
+-- and it leaves the log alone
+abbrev pub KeepsLog : Record → List ℕ → RunState → RunState → Type 0
+KeepsLog word events x y = (log : List ℕ) → Implements word events x log y log
+
+-- and it takes no event
+abbrev pub KeepsEvents : Record → RunState → RunState → Type 0
+KeepsEvents word x y = (events : List ℕ) → KeepsLog word events x y
+
+-- the position where such a word leads
+abbrev pub positionAfter : Position → ControlResult → Position
+positionAfter x y = record { used = y .used; taken = x .taken; logged = x .logged; place = y .place }
+
+-- and it leaves the device alone: the place and the counters move
+abbrev pub KeepsDevice : Record → Position → List ℕ → ControlResult → List ℕ → Type 0
+KeepsDevice word x cs y cs' = (d : Device) → KeepsEvents word (runState d x cs) (runState d (positionAfter x y) cs')
+
+-- and it leaves the counters alone too
+abbrev pub KeepsCounters : Record → Position → ControlResult → Type 0
+KeepsCounters word x y = (cs : List ℕ) → KeepsDevice word x cs y cs
+
+-- what the words ask that move the place and the counters alone, and those that access the device: they are asked only of words without a fault
+pub record ControlReady (x : Position) (word : Record) : Type 0 where
+  pub enters : word .kind ≡ 4 → counterCount ≤ x .used → word .value ≡ 0
+  pub loops : word .kind ≡ 5 → 0 < x .used
+  pub few : x .used ≤ counterCount
+  pub jumps : (word .kind ≡ 4 → ⊥) → (word .kind ≡ 5 → ⊥) → word .kind ≡ 7
+
+pub record AccessReady (x : Position) (word : Record) (log : List ℕ) : Type 0 where
+  pub reads : word .kind ≡ 2 → x .logged < length log
+  pub tests : (word .kind ≡ 1 → ⊥) → (word .kind ≡ 2 → ⊥) → word .kind ≡ 6
+
+-- ---- the words that access the device
+abbrev pub accessOf : Record → Access
+accessOf r = cond (eqb (r .kind) 1) (writeOf (r .port) (r .width) (r .value)) (readOf (r .port) (r .width))
+
+-- behind the next event and the word's access, which gave the value: the rest of what the word does
+abbrev pub ImplementsAccess : Record → ℕ → List ℕ → Position → List ℕ → Position → List ℕ → Type 0
+ImplementsAccess word value events x log y log' =
+    (d arrived : Device) (cs : List ℕ) (r : AccessResult) → arrived ≡ afterNextEvent d (drop (x .taken) events)
+    → r ≡ deviceAccess arrived (accessOf word) → r .answer .value ≡ value
+    → Implements word events (runState d x cs) log (runState (r .device) y cs) log'

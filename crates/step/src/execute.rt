@@ -1,0 +1,168 @@
+// What a word does to the position, when it neither faults nor halts, and its access to the device.
+use crate::COUNTERS;
+use crate::word;
+use access::Access;
+use record::Record;
+ghost use mathlib.Core.Path.{_≡_};
+ghost use Prim.Native.Nat.{_≤_, _<_};
+ghost use lib.ListN.{length, drop};
+ghost use Rattle.semantics.specs.World.{eventsAfter, readOf, writeOf};
+ghost use Rattle.step.specs.Represents.{ImplementsAccess, AccessReady, ControlReady, KeepsDevice, KeepsCounters, accessOf};
+
+// Where a run stands, beside its device and its counters: the next word, and how many counters are in use, events taken and values
+// logged.
+pub struct Position {
+    pub used: usize,
+    pub taken: usize,
+    pub logged: usize,
+    pub place: u32,
+}
+
+fn events_taken(events: &[u32], taken: usize) -> usize
+    requires { ⌜ taken ≤ length (now events) ⌝ }
+    ensures { λ r. ⌜ (r ≤ length (now (events .entry))) × (drop r (now (events .entry)) ≡ eventsAfter (drop taken (now (events .entry)))) ⌝ }
+{
+    if taken < events.len() {
+        return taken + 1;
+    }
+    taken
+}
+
+fn read_of(word: Record) -> Access
+    ensures { λ r. ⌜ r ≡ readOf (word .port) (word .width) ⌝ }
+{
+    Access {
+        write: false,
+        width: word.width,
+        port: word.port,
+        value: 0,
+    }
+}
+
+fn write_of(word: Record) -> Access
+    ensures { λ r. ⌜ r ≡ writeOf (word .port) (word .width) (word .value) ⌝ }
+{
+    Access {
+        write: true,
+        width: word.width,
+        port: word.port,
+        value: word.value,
+    }
+}
+
+// The access of a write, a read or a test.
+pub fn access_of(word: Record) -> Access
+    ensures { λ r. ⌜ r ≡ accessOf word ⌝ }
+{
+    if word.kind == word::WRITE {
+        return write_of(word);
+    }
+    read_of(word)
+}
+
+// ---- words that move the place and the counters alone
+
+// Where such a word leads. What the run has taken and logged is not handed round: a copy that holds a number just stored makes the
+// processor wait for that store.
+pub struct ControlResult {
+    pub used: usize,
+    pub place: u32,
+}
+
+impl Position {
+    // Repeat 0 jumps and pushes no counter.
+    fn enter(self, word: Record, counters: &mut [u32; COUNTERS]) -> ControlResult
+        requires { ⌜ (self .place < 4096) × (word .kind ≡ 4) × (8 ≤ self .used → word .value ≡ 0) ⌝ }
+        ensures { λ r. ⌜ KeepsDevice word self (now (counters .entry)) r (now (counters .exit)) ⌝ }
+    {
+        let used = self.used;
+        if word.value == 0 {
+            return ControlResult {
+                used,
+                place: word.target,
+            };
+        }
+        counters[used] = word.value;
+        let deeper = used + 1;
+        let place = self.place + 1;
+        ControlResult {
+            used: deeper,
+            place,
+        }
+    }
+
+    // A counter that comes to 0 is out of use.
+    fn loop_end(self, word: Record, counters: &mut [u32; COUNTERS]) -> ControlResult
+        requires { ⌜ (self .place < 4096) × (word .kind ≡ 5) × (0 < self .used) × (self .used ≤ 8) ⌝ }
+        ensures { λ r. ⌜ KeepsDevice word self (now (counters .entry)) r (now (counters .exit)) ⌝ }
+    {
+        let top = self.used - 1;
+        let counter = counters[top];
+        if counter <= 1 {
+            counters[top] = 0;
+            let place = self.place + 1;
+            return ControlResult { used: top, place };
+        }
+        counters[top] = counter - 1;
+        ControlResult {
+            used: self.used,
+            place: word.target,
+        }
+    }
+
+    fn jump(self, word: Record) -> ControlResult
+        requires { ⌜ word .kind ≡ 7 ⌝ }
+        ensures { λ r. ⌜ KeepsCounters word self r ⌝ }
+    {
+        ControlResult {
+            used: self.used,
+            place: word.target,
+        }
+    }
+
+    // An enter, a loop end or a jump.
+    pub fn execute_control(self, word: Record, counters: &mut [u32; COUNTERS]) -> ControlResult
+        requires { ⌜ (self .place < 4096) × ControlReady self word ⌝ }
+        ensures { λ r. ⌜ KeepsDevice word self (now (counters .entry)) r (now (counters .exit)) ⌝ }
+    {
+        let kind = word.kind;
+        if kind == word::ENTER {
+            return self.enter(word, counters);
+        }
+        if kind == word::LOOP_END {
+            return self.loop_end(word, counters);
+        }
+        self.jump(word)
+    }
+}
+
+// ---- words that access the device
+
+impl Position {
+    // Behind the access of a write, a read or a test, which gave this value. There is room for the value of a read.
+    pub fn apply_answer(mut self, word: Record, value: u32, events: &[u32], log: &mut [u32]) -> Self
+        requires { ⌜ (self .place < 4096) × (self .taken ≤ length (now events)) × AccessReady self word (now log) ⌝ }
+        ensures { λ r. ⌜ ImplementsAccess word value (now (events .entry)) self (now (log .entry)) r (now (log .exit)) ⌝ }
+    {
+        let kind = word.kind;
+        let after = events_taken(events, self.taken);
+        self.taken = after;
+        if kind == word::READ {
+            let at = self.logged;
+            log[at] = value;
+            self.logged = at + 1;
+            self.place = self.place + 1;
+            return self;
+        }
+        if kind == word::WRITE {
+            self.place = self.place + 1;
+            return self;
+        }
+        if value & word.value == 0 {
+            self.place = word.target;
+            return self;
+        }
+        self.place = self.place + 1;
+        self
+    }
+}

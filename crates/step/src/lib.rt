@@ -1,0 +1,59 @@
+// The sequencer's state, its words, and what one word does.
+pub mod execute;
+pub mod word;
+
+ghost use mathlib.Core.Path.{_≡_};
+ghost use Rattle.step.specs.Sequencer.{freshSequencer, counterInRange, sequencerInRange};
+
+// A sequencer has this many loop counters.
+pub const COUNTERS: usize = 8;
+
+// The largest count of a repeat.
+const MOST_TURNS: u32 = 65535;
+
+// The place of the next word, and the loop counters, bottom first: `used` of them are in use, and the rest are 0.
+pub struct Sequencer {
+    pub place: u32,
+    pub counters: [u32; COUNTERS],
+    pub used: usize,
+}
+
+fn counter_in_range(used: usize, k: usize, counter: u32) -> bool
+    ensures { λ r. ⌜ r ≡ counterInRange used k counter ⌝ }
+{
+    if k < used {
+        if counter < 1 {
+            return false;
+        }
+        return counter <= MOST_TURNS;
+    }
+    counter == 0
+}
+
+impl Sequencer {
+    pub fn fresh() -> Self
+        ensures { λ r. ⌜ r ≡ freshSequencer ⌝ }
+    {
+        Sequencer {
+            place: 0,
+            counters: [0; COUNTERS],
+            used: 0,
+        }
+    }
+
+    pub fn in_range(self) -> bool
+        ensures { λ r. ⌜ r ≡ sequencerInRange self ⌝ }
+    {
+        let used = self.used;
+        let counters = self.counters;
+        if COUNTERS < used {
+            return false;
+        }
+        for k in 0..COUNTERS {
+            if !counter_in_range(used, k, counters[k]) {
+                return false;
+            }
+        }
+        true
+    }
+}
