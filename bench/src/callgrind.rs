@@ -1,4 +1,5 @@
-//! The table of instructions: each row and side in a process of its own under callgrind, less a process that does neither.
+//! The table of instruction counts. Each row runs in a separate callgrind process for each program. The count of a process that calls
+//! neither program is subtracted.
 
 use std::process::{Command, Stdio};
 
@@ -22,7 +23,7 @@ fn counted(number: usize, side: &str) -> Result<u64, String> {
     let total = text.lines().find_map(|line| line.strip_prefix("totals:").or(line.strip_prefix("summary:")));
     match total.and_then(|total| total.trim().parse().ok()) {
         Some(total) if status.success() => Ok(total),
-        _ => Err(format!("callgrind gives no total for row {number}, {side}")),
+        _ => Err(format!("callgrind reported no total for row {number}, {side}")),
     }
 }
 
@@ -32,13 +33,13 @@ fn items(row: &Row) -> Result<(u64, &'static str), String> {
         (row.work.done(side, &mut buffers), buffers)
     });
     if ours != theirs {
-        return Err(format!("{}: the programs differ: {:?} {:?}", row.name, ours.0, theirs.0));
+        return Err(format!("{}: the programs gave different results: {:?} {:?}", row.name, ours.0, theirs.0));
     }
     Ok(row.items(&ours.0))
 }
 
 pub fn print(part: &str) -> Result<(), String> {
-    println!("Instructions, counted by callgrind on smaller inputs, less those of a process that calls neither program.");
+    println!("Instructions, counted by callgrind on smaller inputs. The count of a process that calls neither program is subtracted.");
     let mut group = "";
     let mut seen = false;
     for (number, row) in rows(Size::Small).iter().enumerate() {
@@ -61,6 +62,6 @@ pub fn print(part: &str) -> Result<(), String> {
     if seen {
         Ok(())
     } else {
-        Err(format!("no row has {part:?} in its name"))
+        Err(format!("no row name contains {part:?}"))
     }
 }

@@ -1,4 +1,4 @@
-//! The processor time of this thread, which other programs on the machine disturb less than the time of day.
+//! The processor time of this thread. Other programs on the machine disturb it less than wall-clock time.
 
 use std::ffi::c_int;
 
@@ -15,10 +15,10 @@ extern "C" {
 /// CLOCK_THREAD_CPUTIME_ID of Linux.
 const THREAD: c_int = 3;
 
-/// Nanoseconds since some start.
+/// Nanoseconds since an arbitrary start.
 pub fn now() -> u64 {
     let mut time = Timespec { seconds: 0, nanoseconds: 0 };
-    // SAFETY: the pointer is to a timespec of this frame, in the layout of 64-bit Linux.
+    // SAFETY: the pointer is to a local timespec in the layout of 64-bit Linux.
     let failed = unsafe { clock_gettime(THREAD, &mut time) };
     assert_eq!(failed, 0, "the thread has a clock");
     time.seconds as u64 * 1_000_000_000 + time.nanoseconds as u64

@@ -1,4 +1,4 @@
-//! The scripts, accesses and events that both programs are given.
+//! The scripts, accesses and events that both programs get as input.
 
 use reference::compiler::{self, Record, DELAY, ELSE, END, IF, READ, REPEAT, WRITE};
 use reference::sequencer::{self, Lent, Sequencer};
@@ -6,7 +6,7 @@ use reference::state::{self, StateBytes};
 
 use crate::work::Access;
 
-/// The records of a script that has room for 1,024 words, halt included.
+/// With this many records a script compiles to 1,024 words, the halt included.
 pub const MOST_RECORDS: usize = 1_023;
 
 const INDEX: u16 = 0x002E;
@@ -68,7 +68,7 @@ impl Script {
         self.put(END, 0, 0, 0);
     }
 
-    /// Writes up to so many records.
+    /// Adds writes until the script has this many records.
     fn filled(mut self, records: usize) -> Vec<u8> {
         for k in self.records()..records {
             self.write((1, KEY + (k % 32) as u16, (k % 256) as u32));
@@ -78,7 +78,7 @@ impl Script {
 
     pub fn image(&self) -> Vec<u8> {
         let mut image = vec![0; runnelopal::IMAGE_BYTES];
-        let words = compiler::compile(&self.bytes, &mut image).expect("a good script");
+        let words = compiler::compile(&self.bytes, &mut image).expect("the script is valid");
         image.truncate(words * compiler::RECORD_BYTES);
         image
     }
@@ -90,7 +90,7 @@ pub fn flat(records: usize) -> Vec<u8> {
     Script::default().filled(records)
 }
 
-/// Eight repeats and eight ifs inside each other around everything else, which are writes.
+/// Eight repeats and eight ifs, nested, around all other records, which are writes.
 pub fn one_nest(records: usize) -> Vec<u8> {
     let mut script = Script::default();
     open(&mut script);
@@ -100,7 +100,7 @@ pub fn one_nest(records: usize) -> Vec<u8> {
     script.bytes
 }
 
-/// Sixteen blocks inside each other, half of them repeats.
+/// Opens sixteen nested blocks, half of them repeats.
 fn open(script: &mut Script) {
     for k in 0..8 {
         script.repeat(k);
@@ -108,7 +108,7 @@ fn open(script: &mut Script) {
     }
 }
 
-/// One nest of 16 after the other, each if with an else.
+/// A sequence of nests of 16 blocks; each if has an else.
 pub fn nests(records: usize) -> Vec<u8> {
     let mut script = Script::default();
     let size = 16 + 1 + 8 * 2 + 16;
@@ -125,7 +125,7 @@ pub fn nests(records: usize) -> Vec<u8> {
     script.filled(records)
 }
 
-/// Ifs with elses, side by side.
+/// A sequence of ifs with elses, not nested.
 pub fn many_ifs(records: usize) -> Vec<u8> {
     let mut script = Script::default();
     while script.records() + 5 <= records {
@@ -140,7 +140,7 @@ pub fn many_ifs(records: usize) -> Vec<u8> {
 
 // ---- scripts to run
 
-/// Repeats inside each other, outermost first, around a body.
+/// Nested repeats, outermost first, around a body.
 pub fn looped(times: &[u32], body: impl FnOnce(&mut Script)) -> Script {
     let mut script = Script::default();
     times.iter().for_each(|times| script.repeat(*times));
@@ -182,7 +182,7 @@ fn set_up_list() -> Vec<(u8, u16, u32)> {
     list
 }
 
-/// A whole set-up, from unlock to lock.
+/// A whole register set-up, from unlock to lock.
 pub fn set_up(script: &mut Script) {
     set_up_list().into_iter().for_each(|write| script.write(write));
     script.write((1, INDEX, 0xAA));
@@ -225,7 +225,7 @@ pub fn reads() -> Script {
     script
 }
 
-/// Ifs with elses, of which some are taken, and what stands in them is short.
+/// Ifs with elses and short bodies. Some of the ifs are taken.
 pub fn tests(script: &mut Script) {
     for (width, port, mask) in [(2, PM1_CONTROL, 1), (4, TIMER, 3), (1, MONITOR_DATA, 0x80), (1, NOBODY, 1)] {
         script.branch(width, port, mask);
@@ -239,7 +239,7 @@ pub fn tests(script: &mut Script) {
     }
 }
 
-/// As many events as a run takes, of every kind but the resets.
+/// As many events as a run may have, of every kind except resets.
 pub fn many_events() -> Vec<u32> {
     let list: Vec<u32> = ticks().into_iter().chain(pins()).chain(alarms()).collect();
     list.into_iter().cycle().take(sequencer::EVENT_LIMIT).collect()
@@ -247,14 +247,14 @@ pub fn many_events() -> Vec<u32> {
 
 // ---- lone calls
 
-/// The state behind a set-up that is not locked again.
+/// The state after a set-up without the final lock.
 pub fn start() -> StateBytes {
     let mut script = Script::default();
     set_up_list().into_iter().for_each(|write| script.write(write));
     let image = script.image();
     let mut device = reference::device::Device::fresh();
     let lent = Lent { image: &image, events: &[], budget: u32::MAX, log: &mut [] };
-    sequencer::run(lent, &mut device, &mut Sequencer::fresh(), &mut ()).expect("a good image");
+    sequencer::run(lent, &mut device, &mut Sequencer::fresh(), &mut ()).expect("the image is valid");
     state::encode(&device)
 }
 
@@ -277,7 +277,7 @@ pub fn pins() -> Vec<u32> {
     (0..16).map(|operand| 0x0200_0000 + (operand * 7) % 16).collect()
 }
 
-/// The alarm, the bus master, the sensors, the button.
+/// RTC alarm, bus master, sensor and button events.
 pub fn alarms() -> Vec<u32> {
     vec![0x0300_0000, 0x0400_0000, 0x0500_0000, 0x0500_0001, 0x0500_0002, 0x0500_0003, 0x0700_0000]
 }

@@ -1,4 +1,4 @@
-//! Both programs on the same inputs: times, or instructions counted by callgrind.
+//! Runs both programs on the same inputs and prints times, or instructions counted by callgrind.
 
 mod callgrind;
 mod clock;
@@ -13,13 +13,13 @@ use rows::{rows, Size};
 use work::Side;
 
 const USAGE: &str = "\
-usage: bench [ROWS]              time both programs and print the table
-       bench --callgrind [ROWS]  count instructions instead; needs valgrind
-       bench --once ROW SIDE     one small row alone, SIDE being ours, theirs or neither
-ROWS is a part of the names of rows.
+usage: bench [PART]              time both programs and print the table
+       bench --callgrind [PART]  count instructions instead; needs valgrind
+       bench --once ROW SIDE     run one small row; SIDE is ours, theirs or neither
+Only the rows whose names contain PART are measured.
 ";
 
-/// One row in a process of its own, for callgrind.
+/// Runs one row, in the process that callgrind started.
 fn once(number: &str, side: &str) -> Option<()> {
     let row = rows(Size::Small).into_iter().nth(number.parse().ok()?)?;
     let mut buffers = row.work.buffers();

@@ -28,7 +28,7 @@ impl Row {
         }
     }
 
-    /// What is cleared before each repetition, untimed.
+    /// What is cleared before each repetition, outside the measured part.
     pub fn cleared(&self) -> &'static str {
         match self.work {
             Work::Compile { .. } => "image cleared",
@@ -81,7 +81,7 @@ pub fn rows(size: Size) -> Vec<Row> {
         run("reads to the end of a log", &inputs::reads(), small(1_000_000, 50_000) as usize),
         run("tests and jumps", &inputs::looped(&[small(40, 1), 5_000], inputs::tests), 0),
     ]);
-    let mut events = run("writes behind 4,096 events", &inputs::looped(&[4_096], inputs::one_write), 0);
+    let mut events = run("4,096 writes, each after an event", &inputs::looped(&[4_096], inputs::one_write), 0);
     if let Work::Run { events, times, .. } = &mut events.work {
         *events = inputs::many_events();
         *times = small(300, 4) as usize;

@@ -6,7 +6,7 @@ use crate::work::{Done, Side};
 
 const REPETITIONS: usize = 9;
 
-/// One repetition on cleared buffers: its time and everything it gave.
+/// One repetition on cleared buffers: its time and its results.
 fn repetition(row: &Row, side: Side) -> (u64, Done, crate::work::Buffers) {
     let mut buffers = row.work.buffers();
     let before = clock::now();
@@ -14,16 +14,16 @@ fn repetition(row: &Row, side: Side) -> (u64, Done, crate::work::Buffers) {
     (clock::now() - before, done, buffers)
 }
 
-/// The times of both sides, interleaved, the first to go changing; or what they differ in.
+/// The times of both programs, measured in turns, with the program that goes first changing. An error if their results differ.
 fn times(row: &Row) -> Result<(Vec<u64>, Vec<u64>, Done), String> {
     let (mut ours, mut theirs, mut last) = (Vec::new(), Vec::new(), None);
     for k in 0..=REPETITIONS {
         let sides = if k % 2 == 0 { [Side::Ours, Side::Theirs] } else { [Side::Theirs, Side::Ours] };
         let [first, second] = sides.map(|side| repetition(row, side));
         if first.1 != second.1 || first.2 != second.2 {
-            return Err(format!("{}: the programs differ: {:?} {:?}", row.name, first.1, second.1));
+            return Err(format!("{}: the programs gave different results: {:?} {:?}", row.name, first.1, second.1));
         }
-        // The first repetition only warms up.
+        // The first repetition warms up the machine and is not counted.
         if k > 0 {
             let (our, their) = if sides[0] == Side::Ours { (first.0, second.0) } else { (second.0, first.0) };
             ours.push(our);
@@ -37,7 +37,7 @@ fn times(row: &Row) -> Result<(Vec<u64>, Vec<u64>, Done), String> {
 }
 
 pub fn print(part: &str) -> Result<(), String> {
-    println!("Processor time; {REPETITIONS} repetitions of each, interleaved; medians, and the least times behind them.");
+    println!("Processor time: {REPETITIONS} repetitions for each program, in turns. Medians, and the ratio of the least times.");
     let mut group = "";
     let mut seen = false;
     for row in rows(Size::Full) {

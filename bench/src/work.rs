@@ -1,4 +1,4 @@
-//! A piece of work, and how each program does it.
+//! The work of a row, and how each program does it.
 
 use std::hint::black_box;
 
@@ -13,7 +13,7 @@ pub enum Side {
     Theirs,
 }
 
-/// One lone access; a read has no value.
+/// A single access. A read has no value.
 #[derive(Clone, Copy)]
 pub struct Access {
     pub width: u32,
@@ -21,7 +21,7 @@ pub struct Access {
     pub written: Option<u32>,
 }
 
-/// What their lone calls work on. Ours always load and save the bytes.
+/// How the model keeps its device between single calls. The library always loads and saves the bytes.
 #[derive(Clone, Copy, PartialEq, Eq)]
 pub enum Held {
     Struct,
@@ -29,23 +29,23 @@ pub enum Held {
 }
 
 pub enum Work {
-    /// The script is compiled so many times.
+    /// Compiles the script this many times.
     Compile { script: Vec<u8>, times: usize },
-    /// The image is run so many times, each time on a fresh device.
+    /// Runs the image this many times, each time on a fresh device.
     Run { image: Vec<u8>, events: Vec<u32>, budget: u32, log: usize, times: usize },
-    /// The list is gone through so many times on one device, which starts from the state.
+    /// Goes through the list this many times on one device, which starts from the given state.
     Accesses { start: state::StateBytes, list: Vec<Access>, times: usize, held: Held },
     Events { start: state::StateBytes, list: Vec<u32>, times: usize, held: Held },
 }
 
-/// What a call writes into beside its answer.
+/// The buffers that a call writes, besides its answer.
 #[derive(PartialEq, Eq)]
 pub struct Buffers {
     image: Vec<u8>,
     log: Vec<u32>,
 }
 
-/// Everything that the two programs must agree on: the numbers of the last call, a sum over all calls, the device.
+/// The results on which both programs must agree: the numbers of the last call, a sum over all calls, and the device.
 #[derive(Debug, PartialEq, Eq)]
 pub struct Done {
     pub numbers: [u64; 5],
@@ -62,7 +62,7 @@ fn outputs(sci: bool, smi: bool, monitor: bool) -> u64 {
 }
 
 impl Work {
-    /// Cleared buffers, every byte of them touched.
+    /// Cleared buffers. Every byte has been written, so that no page is touched for the first time while measuring.
     pub fn buffers(&self) -> Buffers {
         let (image, log) = match self {
             Work::Compile { .. } => (runnelopal::IMAGE_BYTES, 0),
@@ -94,8 +94,8 @@ fn compiled(side: Side, script: &[u8], times: usize, image: &mut [u8]) -> Done {
     for _ in 0..times {
         let script = black_box(script);
         words = match side {
-            Side::Ours => runnelopal::compile(script, image).expect("a good script"),
-            Side::Theirs => compiler::compile(script, image).expect("a good script"),
+            Side::Ours => runnelopal::compile(script, image).expect("the script is valid"),
+            Side::Theirs => compiler::compile(script, image).expect("the script is valid"),
         };
         black_box(&mut *image);
     }
@@ -105,7 +105,7 @@ fn compiled(side: Side, script: &[u8], times: usize, image: &mut [u8]) -> Done {
 fn our_run(image: &[u8], events: &[u32], budget: u32, log: &mut [u32], times: usize) -> Done {
     let mut done = None;
     for _ in 0..times {
-        done = Some(runnelopal::run(black_box(image), events, budget, log).expect("a good image"));
+        done = Some(runnelopal::run(black_box(image), events, budget, log).expect("the image is valid"));
         black_box(&mut *log);
     }
     let run = done.expect("at least one run");
@@ -122,7 +122,7 @@ fn their_run(image: &[u8], events: &[u32], budget: u32, log: &mut [u32], times: 
         let mut device = Device::fresh();
         let mut sequencer = Sequencer::fresh();
         let lent = Lent { image: black_box(image), events, budget, log: &mut *log };
-        let ended = sequencer::run(lent, &mut device, &mut sequencer, &mut ()).expect("a good image");
+        let ended = sequencer::run(lent, &mut device, &mut sequencer, &mut ()).expect("the image is valid");
         done = Some((ended, sequencer.place, state::encode(&device)));
         black_box(&mut *log);
     }
@@ -149,7 +149,7 @@ fn our_accesses(start: &state::StateBytes, list: &[Access], times: usize) -> Don
                 None => device.read(access.width, access.port),
                 Some(value) => device.write(access.width, access.port, value),
             };
-            let answer = answer.expect("a good access");
+            let answer = answer.expect("the access is valid");
             let on = answer.outputs;
             sum = added(sum, answer.status << 40 | u64::from(answer.value) << 3 | outputs(on.sci, on.smi, on.monitor));
         }
@@ -162,23 +162,23 @@ fn their_access(device: &mut Device, access: &Access) -> u64 {
         None => device.lone_read(access.width, access.port),
         Some(value) => device.lone_write(access.width, access.port, value),
     };
-    let answer = answer.expect("a good access");
+    let answer = answer.expect("the access is valid");
     let on = device.outputs();
     u64::from(answer.status) << 40 | u64::from(answer.value) << 3 | outputs(on.sci, on.smi, on.monitor)
 }
 
-/// Calls `with` on each item, on a device that is kept as a struct or as bytes in between.
+/// Calls `with` on each item. Between the calls the device is kept as a struct or as bytes.
 #[inline(always)]
 fn each<T>(start: &state::StateBytes, list: &[T], times: usize, held: Held, with: impl Fn(&mut Device, &T) -> u64) -> Done {
     let mut sum = 0;
     let mut bytes = *start;
-    let mut device = state::decode(&bytes).expect("a good state");
+    let mut device = state::decode(&bytes).expect("the state is valid");
     for _ in 0..times {
         for item in black_box(list) {
             if held == Held::Struct {
                 sum = added(sum, with(&mut device, item));
             } else {
-                let mut loaded = state::decode(black_box(&bytes)).expect("a good state");
+                let mut loaded = state::decode(black_box(&bytes)).expect("the state is valid");
                 sum = added(sum, with(&mut loaded, item));
                 bytes = state::encode(&loaded);
             }
@@ -197,7 +197,7 @@ fn our_events(start: &state::StateBytes, list: &[u32], times: usize) -> Done {
     let mut sum = 0;
     for _ in 0..times {
         for number in black_box(list) {
-            let on = device.event(*number).expect("a good event");
+            let on = device.event(*number).expect("the event is valid");
             sum = added(sum, outputs(on.sci, on.smi, on.monitor));
         }
     }
@@ -206,7 +206,7 @@ fn our_events(start: &state::StateBytes, list: &[u32], times: usize) -> Done {
 
 fn their_events(start: &state::StateBytes, list: &[u32], times: usize, held: Held) -> Done {
     each(start, list, times, held, |device, number| {
-        device.lone_event(*number).expect("a good event");
+        device.lone_event(*number).expect("the event is valid");
         let on = device.outputs();
         outputs(on.sci, on.smi, on.monitor)
     })

@@ -1,5 +1,5 @@
-/* Reads a script on standard input, compiles it, runs it on a fresh device, and prints what it logged; then reads one
- * register of the device that the run left. */
+/* Reads a script on standard input, compiles it, runs it on a fresh device and prints the values that the run logged. Then reads one
+ * register of the device after the run. */
 #include <inttypes.h>
 #include <stdio.h>
 
@@ -7,11 +7,12 @@
 
 int main(void)
 {
-    static uint8_t script[RUNNELOPAL_IMAGE + 12];
+    /* One record longer than the longest script, so that a script that is too long is refused and not cut off. */
+    static uint8_t script[RUNNELOPAL_IMAGE + RUNNELOPAL_RECORD];
     static uint8_t image[RUNNELOPAL_IMAGE];
     static uint32_t log[1024];
     uint8_t state[RUNNELOPAL_STATE];
-    uint32_t events[1] = {0};
+    uint32_t events[1] = {0}; /* the run has no events, but the pointer must not be null */
     uint64_t answer[6] = {0};
 
     size_t length = fread(script, 1, sizeof script, stdin);
@@ -23,13 +24,13 @@ int main(void)
     size_t words = answer[1];
     printf("%zu words\n", words);
 
-    uint32_t outcome =
-        runnelopal_run(image, 12 * words, events, 0, 100000, log, 1024, state, sizeof state, answer, 6);
+    uint32_t ending = runnelopal_run(image, RUNNELOPAL_RECORD * words, events, 0, 100000, log, 1024, state, sizeof state,
+                                     answer, 6);
     uint64_t steps = answer[1];
     uint64_t logged = answer[3];
     for (size_t k = 0; k < logged; k++)
         printf("logged %08" PRIX32 "\n", log[k]);
-    printf("ended with %" PRIu32 " after %" PRIu64 " steps\n", outcome, steps);
+    printf("ended with %" PRIu32 " after %" PRIu64 " steps\n", ending, steps);
 
     refusal = runnelopal_access(state, sizeof state, false, 1, 0x2E, 0, answer, 6);
     printf("002E reads %02" PRIX64 ", status %" PRIu64 ", refusal %" PRIu32 "\n", answer[2], answer[1], refusal);

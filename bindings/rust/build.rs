@@ -1,4 +1,4 @@
-//! Links the archive that `rt staticlib runnelopal` writes.
+//! Links target/staticlib/librunnelopal.a, which `rt staticlib runnelopal` builds.
 use std::path::Path;
 
 fn main() {

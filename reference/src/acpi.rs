@@ -1,4 +1,4 @@
-//! The ACPI event block at AC00h to AC1Fh, and its settling (document 01, "ACPI block").
+//! The ACPI event block at ports AC00h to AC1Fh, and its settling.
 
 use crate::device::{Denial, Width};
 
@@ -65,7 +65,7 @@ impl Register {
     }
 }
 
-/// What SETUP_DATA shows under each legal SETUP_IDX.
+/// The register that SETUP_DATA accesses, for each legal value of SETUP_IDX.
 enum Setup {
     Nothing,
     PinMap(usize),
@@ -85,8 +85,8 @@ impl Setup {
     }
 }
 
-/// A map value is zero above bit 12 and in bits 9 to 11, and its low byte names a status bit
-/// or none. Bits 8 and 12 are free.
+/// Is this a legal map value? It is zero above bit 12 and in bits 9 to 11, and its low byte names
+/// a status bit, or is 0 for none. Bits 8 and 12 may have any value.
 fn map_is_legal(value: u32) -> bool {
     let target_is_legal = matches!(value & 0xFF, 0x00 | 0x08 | 0x09 | 0x10..=0x1F);
     value & !0x11FF == 0 && target_is_legal
@@ -99,7 +99,7 @@ pub struct Acpi {
     pub sci_enabled: bool,
     pub pm1_status: u16,
     pub pm1_enable: u16,
-    /// The stored bits only; SCI_EN stands by itself.
+    /// The stored bits only; SCI_EN is a field of its own.
     pub pm1_control: u16,
     pub sleeping: bool,
     pub setup_index: u16,
@@ -130,7 +130,7 @@ impl Acpi {
         }
     }
 
-    /// Every register within its mask and legal values.
+    /// Is every register within its mask and its legal values?
     pub fn in_range(&self) -> bool {
         self.p_cnt & !P_CNT_MASK == 0
             && matches!(self.cpu_state, 0 | 2 | 3)
@@ -165,7 +165,7 @@ impl Acpi {
         }
     }
 
-    /// The value fits the width.
+    /// The caller ensures that the value fits the width.
     pub fn write(&mut self, offset: u16, width: Width, value: u32) -> Result<(), Denial> {
         let [byte, second, _, _] = value.to_le_bytes();
         let word = u16::from_le_bytes([byte, second]);
@@ -209,7 +209,7 @@ impl Acpi {
     fn write_setup_data(&mut self, value: u32) -> Result<(), Denial> {
         match Setup::under(self.setup_index).ok_or(Denial::UndefinedIndex)? {
             Setup::Nothing => return Err(Denial::Ignored),
-            // Any value, 0 too, sets GBL_STS.
+            // Every value sets GBL_STS, 0 too.
             Setup::SetGlobalStatus => self.pm1_status |= GBL_STS,
             Setup::PinMap(pin) => {
                 if !map_is_legal(value) {
@@ -227,7 +227,7 @@ impl Acpi {
         Ok(())
     }
 
-    /// Event 1. TMR_STS is set when the timer passes from FFFFFFh to 0, and then alone.
+    /// Event 1, ticks. TMR_STS is set only when the timer passes from FFFFFFh to 0.
     pub fn tick(&mut self, ticks: u16) {
         let count = self.timer + u32::from(ticks);
         if count >= TIMER_COUNTS {
@@ -236,7 +236,8 @@ impl Acpi {
         self.timer = count % TIMER_COUNTS;
     }
 
-    /// Event 2, the level having changed: the mapped direction sets the mapped bit.
+    /// Event 2, after the level of the pin has changed: a change in the mapped direction sets the
+    /// mapped bit.
     pub fn pin_changed(&mut self, pin: usize, level: bool) {
         let map = self.pin_maps[pin];
         let fall = map & MAP_DIRECTION_FALL != 0;
@@ -250,17 +251,17 @@ impl Acpi {
         }
     }
 
-    /// Event 3.
+    /// Event 3, RTC alarm.
     pub fn rtc_alarm(&mut self) {
         self.pm1_status |= RTC_STS;
     }
 
-    /// Event 4.
+    /// Event 4, bus master.
     pub fn bus_master(&mut self) {
         self.pm1_status |= BM_STS;
     }
 
-    /// Event 7.
+    /// Event 7, button held.
     pub fn button_held(&mut self) {
         self.pm1_status |= BUTTON_HELD_STS;
     }
@@ -277,7 +278,7 @@ impl Acpi {
         self.pending() && !self.sci_enabled
     }
 
-    /// After every event and access.
+    /// The device calls this after every event and access.
     pub fn settle(&mut self) {
         if self.sleeping && self.pending() {
             self.sleeping = false;

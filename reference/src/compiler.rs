@@ -1,4 +1,4 @@
-//! The script compiler: records in, words out (document 01, "Scripts and images").
+//! The script compiler: turns the records of a script into the words of an image.
 
 use crate::device::Width;
 
@@ -6,10 +6,10 @@ pub const RECORD_BYTES: usize = 12;
 pub const RECORD_LIMIT: usize = 1024;
 pub const WORD_LIMIT: usize = 1024;
 
-/// A block may be opened inside fewer blocks than this.
+/// The greatest number of nested blocks.
 pub const BLOCK_LIMIT: usize = 16;
 
-/// A repeat may be opened inside fewer repeats than this.
+/// The greatest number of nested repeats.
 pub const REPEAT_LIMIT: usize = 8;
 
 pub const SCRIPT_MARK: [u8; 2] = [0x5A, 0xA5];
@@ -24,7 +24,7 @@ pub const IF: u8 = 5;
 pub const ELSE: u8 = 6;
 pub const END: u8 = 7;
 
-/// Kinds of words; 1 to 3 are those of script records.
+/// Kinds of words. Kinds 1 to 3 are the same as those of script records.
 pub const ENTER: u8 = 4;
 pub const LOOP_END: u8 = 5;
 pub const TEST: u8 = 6;
@@ -34,7 +34,7 @@ pub const HALT: u8 = 8;
 /// The largest value of a delay or a repeat.
 const COUNT_LIMIT: u32 = 65_535;
 
-/// Twelve bytes taken apart: a script record or a word.
+/// The fields of a script record or a word, which has twelve bytes.
 #[derive(Clone, Copy, Debug, Default, PartialEq, Eq)]
 pub struct Record {
     pub mark: [u8; 2],
@@ -46,7 +46,7 @@ pub struct Record {
 }
 
 impl Record {
-    /// A script record with nothing but its kind.
+    /// A script record with this kind and all other fields 0.
     pub fn of_script(kind: u8) -> Self {
         Record {
             mark: SCRIPT_MARK,
@@ -55,7 +55,7 @@ impl Record {
         }
     }
 
-    /// A word with nothing but its kind.
+    /// A word with this kind and all other fields 0.
     pub fn of_image(kind: u8) -> Self {
         Record {
             mark: WORD_MARK,
@@ -86,7 +86,8 @@ impl Record {
         ]
     }
 
-    /// The faults of a script record by itself, least number first.
+    /// The first fault of a script record that can be found without the records around it: refusals
+    /// 2 to 4.
     fn check(&self) -> Result<(), Fault> {
         if self.mark != SCRIPT_MARK {
             return Err(Fault::Mark);
@@ -109,7 +110,8 @@ impl Record {
     }
 }
 
-/// What is wrong with a script, or with the buffer for its image; in the order of the numbers.
+/// Why a script, or the buffer for its image, is refused. The variants are in the order of their
+/// numbers.
 #[derive(Clone, Copy, Debug, PartialEq, Eq)]
 pub enum Fault {
     Length,
@@ -145,7 +147,7 @@ pub struct Refusal {
     pub place: usize,
 }
 
-/// An open block, with the place of the word that waits for its target.
+/// An open block, with the place of the word whose target is not known yet.
 #[derive(Clone, Copy, Debug, PartialEq, Eq)]
 enum Block {
     Repeat { enter: usize },
@@ -160,7 +162,7 @@ struct Assembly {
 }
 
 impl Assembly {
-    /// Takes the next record, which is good by itself.
+    /// Adds the next record, which has no fault of its own.
     fn take(&mut self, record: &Record) -> Result<(), Fault> {
         let here = self.words.len();
         match record.kind {
@@ -212,7 +214,7 @@ impl Assembly {
         Ok(())
     }
 
-    /// Adds a word with the record's width, port and value, which are zero where unused.
+    /// Adds a word with the width, port and value of the record. Unused fields are zero.
     fn push(&mut self, record: &Record, kind: u8, target: usize) {
         self.words.push(Record {
             mark: WORD_MARK,
@@ -223,12 +225,13 @@ impl Assembly {
     }
 
     fn aim(&mut self, word: usize, target: usize) {
-        self.words[word].target = u16::try_from(target).expect("scripts are short");
+        self.words[word].target =
+            u16::try_from(target).expect("a script has at most 1,024 records");
     }
 }
 
-/// Compiles a script into the front of an image buffer and gives the count of its words. A refusal
-/// writes nothing; the buffer's rest stays as lent.
+/// Compiles a script into the start of an image buffer and returns the number of words. A refusal
+/// writes nothing. The rest of the buffer is not changed.
 pub fn compile(script: &[u8], image: &mut [u8]) -> Result<usize, Refusal> {
     let chunks = script.chunks_exact(RECORD_BYTES);
     let records = chunks.len();
@@ -240,7 +243,7 @@ pub fn compile(script: &[u8], image: &mut [u8]) -> Result<usize, Refusal> {
     }
     let mut assembly = Assembly::default();
     for (place, bytes) in chunks.enumerate() {
-        let record = Record::decode(bytes.try_into().expect("chunks are whole"));
+        let record = Record::decode(bytes.try_into().expect("a chunk has 12 bytes"));
         record
             .check()
             .and_then(|()| assembly.take(&record))

@@ -1,4 +1,4 @@
-//! Document 01's cases for the compiler, and the compile command of docs/CASES.md.
+//! Tests of the compiler and of the compile command of docs/CASES.md.
 
 use crate::compiler::{
     compile, Fault, Record, Refusal, DELAY, ELSE, END, ENTER, HALT, IF, JUMP, LOOP_END, READ,
@@ -56,8 +56,8 @@ fn bytes(records: &[Record]) -> Vec<u8> {
     records.iter().flat_map(Record::encode).collect()
 }
 
-/// Compiles into a buffer that is exactly long enough for so many words, then into one a byte
-/// short and one longer.
+/// Compiles into a buffer that is exactly long enough for this many words, then into one that is a
+/// byte too short and one that is longer.
 fn expect_words(script: &[Record], words: &[Record]) {
     let script = bytes(script);
     let image = bytes(words);
@@ -87,7 +87,7 @@ fn expect_refusal(script: &[Record], fault: Fault, place: usize) {
 }
 
 fn accepted(script: &[Record]) -> usize {
-    compile(&bytes(script), &mut [0; 12_288]).expect("script is good")
+    compile(&bytes(script), &mut [0; 12_288]).expect("the script is valid")
 }
 
 #[test]
@@ -163,7 +163,7 @@ fn empty_and_nested_blocks() {
             word(HALT, 0, 0, 0, 0),
         ],
     );
-    // The end of an inner if gives no word, so that outer targets move up.
+    // The end of an inner if gives no word, so the targets after it are smaller.
     expect_words(
         &[
             repeat(3),
@@ -198,7 +198,7 @@ fn depth() {
     expect_refusal(&nested(repeat(1), 9), Fault::Depth, 8);
     assert_eq!(accepted(&nested(if_bit(), 16)), 17);
     expect_refusal(&nested(if_bit(), 17), Fault::Depth, 16);
-    // Ifs between do not hide the repeats; an else opens no block.
+    // Ifs between repeats do not change the count of repeats; an else opens no block.
     let mut mixed = [if_bit(), repeat(1)].repeat(8);
     mixed.extend(vec![end(); 16]);
     assert_eq!(accepted(&mixed), 25);
@@ -211,7 +211,7 @@ fn depth() {
     assert_eq!(accepted(&elses), 33);
     elses.insert(32, repeat(1));
     expect_refusal(&elses, Fault::Depth, 32);
-    // Closed blocks count no more.
+    // Closed blocks do not count.
     let twice = nested(repeat(1), 8).repeat(2);
     assert_eq!(accepted(&twice), 33);
 }
@@ -292,7 +292,7 @@ fn faults_of_records() {
             let mut script = vec![read(); before];
             script.push(bad);
             expect_refusal(&script, fault, before);
-            // A later fault, of a lower number or not, does not count.
+            // A fault in a later record does not count, even if its number is lower.
             script.push(Record::default());
             expect_refusal(&script, fault, before);
         }
@@ -310,7 +310,7 @@ fn faults_of_records() {
 
 fn answers(input: &[u8]) -> String {
     let mut output = Vec::new();
-    stream::answer_all(&mut &input[..], &mut output).expect("memory takes everything");
+    stream::answer_all(&mut &input[..], &mut output).expect("writing to memory does not fail");
     String::from_utf8(output).expect("answers are text")
 }
 
@@ -354,7 +354,7 @@ fn compile_command() {
 #[test]
 fn random_scripts_reach_every_answer() {
     let mut commands = Vec::new();
-    scripts::write_scripts(1, 3_000, &mut commands).expect("memory takes everything");
+    scripts::write_scripts(1, 3_000, &mut commands).expect("writing to memory does not fail");
     let mut counts = [0; 10];
     for line in answers(&commands).lines() {
         match line.split(' ').collect::<Vec<_>>().as_slice() {

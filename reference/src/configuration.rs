@@ -1,12 +1,12 @@
-//! Super I/O configuration at ports 002Eh and 002Fh, and where it places the other blocks
-//! (document 01, "Configuration and key").
+//! The Super I/O configuration at ports 002Eh and 002Fh, and the ports at which it places the
+//! monitor and the key.
 
 use crate::device::Denial;
 
 pub const INDEX_PORT: u16 = 0x002E;
 pub const DATA_PORT: u16 = 0x002F;
 
-/// Number of key bytes behind the key base.
+/// Number of key bytes, which start at the key base.
 pub const KEY_BYTES: usize = 32;
 
 const UNLOCK: u8 = 0x55;
@@ -20,7 +20,7 @@ const KEY_CONTROL_WRITE_LOCK: u8 = 0x04;
 const KEY_CONTROL_READ_LOCK: u8 = 0x02;
 const KEY_CONTROL_LOCK: u8 = 0x01;
 
-/// The bases used are masked (ours); the registers themselves hold all eight bits.
+/// A base is masked when it is used; the registers themselves store all eight bits.
 const RUNTIME_BASE_MASK: u16 = 0xFF80;
 const KEY_BASE_MASK: u16 = 0xFFE0;
 const MONITOR_OFFSET: u16 = 0x70;
@@ -31,9 +31,9 @@ pub struct Configuration {
     pub index: u8,
     pub device_number: u8,
     pub activate: u8,
-    /// Registers 60h and 61h: high, low.
+    /// Registers 60h and 61h: high byte, low byte.
     pub runtime_base: [u8; 2],
-    /// Registers 62h and 63h: high, low.
+    /// Registers 62h and 63h: high byte, low byte.
     pub key_base: [u8; 2],
     pub key_control: u8,
 }
@@ -64,7 +64,8 @@ impl Configuration {
         Ok(self.index)
     }
 
-    /// Locked, only 55h is taken. Unlocked, AAh locks and every other value, 55h too, is the index.
+    /// If locked, only 55h has an effect. If unlocked, AAh locks, and every other value is the new
+    /// index, 55h too.
     pub fn write_index(&mut self, value: u8) -> Result<(), Denial> {
         match (self.unlocked, value) {
             (false, UNLOCK) => self.unlocked = true,

@@ -1,4 +1,4 @@
-//! The whole device: who claims a port, lone accesses and events, resets and outputs.
+//! The whole device: which block claims a port, single accesses and events, resets and outputs.
 
 use crate::acpi::{self, Acpi, PIN_COUNT};
 use crate::configuration::{self, Configuration, KEY_BYTES};
@@ -33,15 +33,15 @@ impl Width {
 /// Statuses 1 to 5: why an access was not done.
 #[derive(Clone, Copy, Debug, PartialEq, Eq)]
 pub enum Denial {
-    /// Nobody claims, or the owner doesn't take it.
+    /// No block claims the port, or the block does not take the access.
     Unclaimed,
     /// Blocked, or a write to a read-only register.
     Blocked,
-    /// Setup data under an undefined index. No state in range leads here.
+    /// Setup data under an undefined index. A state in range never has one.
     UndefinedIndex,
-    /// No such register in a claimed pair.
+    /// The index does not name a register.
     NoRegister,
-    /// Write value ignored.
+    /// The register does not accept the value; the write is ignored.
     Ignored,
 }
 
@@ -77,7 +77,7 @@ impl Answer {
         }
     }
 
-    /// A write's value answer is 0.
+    /// The answer to a write has the value 0.
     fn to_write(result: Result<(), Denial>) -> Answer {
         Answer {
             status: result.map_or_else(Denial::status, |()| 0),
@@ -86,14 +86,14 @@ impl Answer {
     }
 }
 
-/// Refusals of a lone access or event; the place is 0 in each.
+/// Refusals of a single access or event. The place is always 0.
 #[derive(Clone, Copy, Debug, PartialEq, Eq)]
 pub enum Refusal {
-    /// 4: bad width, port, or write value too wide.
+    /// 4: wrong width or port, or a value that does not fit the width of the write.
     BadAccess,
     /// 11: device state out of range.
     StateOutOfRange,
-    /// 12: bad event.
+    /// 12: not an event.
     BadEvent,
 }
 
@@ -114,8 +114,8 @@ pub struct Outputs {
     pub monitor: bool,
 }
 
-/// One access of a run with its whole answer: status, value and the outputs afterwards. A test is
-/// listed as a read.
+/// One access of a run with its whole answer: status, value and the outputs after it. A test
+/// counts as a read.
 #[derive(Clone, Copy, Debug, PartialEq, Eq)]
 pub struct Access {
     pub width: Width,
@@ -168,7 +168,7 @@ impl Event {
     }
 }
 
-/// Who answers at a port.
+/// The block that answers at a port.
 #[derive(Clone, Copy, Debug, PartialEq, Eq)]
 enum Owner {
     ConfigurationIndex,
@@ -201,12 +201,13 @@ impl Device {
         }
     }
 
-    /// What refusal 11 asks, each field by itself. An unsettled state is in range.
+    /// Is every field in range? If not, calls are refused with 11. A state that is not settled is
+    /// in range.
     pub fn in_range(&self) -> bool {
         self.configuration.in_range() && self.monitor.in_range() && self.acpi.in_range()
     }
 
-    /// Outputs are levels, computed from the state as it stands.
+    /// The outputs are levels, computed from the present state.
     pub fn outputs(&self) -> Outputs {
         Outputs {
             sci: self.acpi.sci(),
@@ -215,13 +216,13 @@ impl Device {
         }
     }
 
-    /// A lone read: refused by 11, then by 4.
+    /// A single read. Refusals: 11, then 4.
     pub fn lone_read(&mut self, width: u32, port: u32) -> Result<Answer, Refusal> {
         let (width, port) = self.accepted(width, port)?;
         Ok(self.answer_read(width, port))
     }
 
-    /// A lone write: refused by 11, then by 4.
+    /// A single write. Refusals: 11, then 4.
     pub fn lone_write(&mut self, width: u32, port: u32, value: u32) -> Result<Answer, Refusal> {
         let (width, port) = self.accepted(width, port)?;
         if value > width.all_ones() {
@@ -230,7 +231,7 @@ impl Device {
         Ok(self.answer_write(width, port, value))
     }
 
-    /// A lone event: refused by 11, then by 12.
+    /// A single event. Refusals: 11, then 12.
     pub fn lone_event(&mut self, number: u32) -> Result<(), Refusal> {
         if !self.in_range() {
             return Err(Refusal::StateOutOfRange);
@@ -240,22 +241,22 @@ impl Device {
         Ok(())
     }
 
-    /// A read, and what settles behind it. The device is in range and stays so.
+    /// A read, followed by settling. The device is in range before and after it.
     pub fn answer_read(&mut self, width: Width, port: u16) -> Answer {
         let result = self.read(width, port);
         self.acpi.settle();
         Answer::to_read(result, width)
     }
 
-    /// A write whose value fits the width, and what settles behind it. The device is in range and
-    /// stays so.
+    /// A write whose value fits the width, followed by settling. The device is in range before and
+    /// after it.
     pub fn answer_write(&mut self, width: Width, port: u16, value: u32) -> Answer {
         let result = self.write(width, port, value);
         self.acpi.settle();
         Answer::to_write(result)
     }
 
-    /// An event, and what settles behind it. The device is in range and stays so.
+    /// An event, followed by settling. The device is in range before and after it.
     pub fn happen(&mut self, event: Event) {
         self.apply(event);
         self.acpi.settle();
@@ -270,8 +271,8 @@ impl Device {
         Ok((width, port))
     }
 
-    /// Blocks claim by starting port, in this order; nothing is passed on. Only the ACPI block
-    /// takes other widths than 1.
+    /// Blocks claim an access by its first port, in this order. The first one answers. Only the
+    /// ACPI block takes widths other than 1.
     fn owner(&self, width: Width, port: u16) -> Result<Owner, Denial> {
         let owner = self.claim(port).ok_or(Denial::Unclaimed)?;
         match owner {
@@ -342,7 +343,7 @@ impl Device {
         }
     }
 
-    /// Each reset does what those before it do, and more.
+    /// Each reset also does what the resets with lower numbers do.
     fn reset(&mut self, reset: Reset) {
         self.configuration = Configuration::reset();
         if reset >= Reset::Vcc {

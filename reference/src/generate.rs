@@ -1,6 +1,6 @@
-//! Random commands for the comparison. The generator runs its own device beside the commands, so
-//! that it can steer towards places where rules meet. Any line it writes is fair: what a line means
-//! is for the two programs to say.
+//! Random commands for the comparison. The generator carries out its commands on a device of its
+//! own, so that it can reach states in which several rules apply. It may write any line: the two
+//! programs under comparison decide what a line means.
 
 use std::collections::VecDeque;
 use std::io::{self, Write};
@@ -26,7 +26,7 @@ const GPE0_ENABLE: u32 = 18;
 const SETUP_DATA: u32 = 20;
 const TIMER: u32 = 24;
 
-/// ACPI offsets with the width each is taken at.
+/// ACPI offsets, each with the width that it takes.
 const ACPI_REGISTERS: [(u32, u32); 12] = [
     (0, 4),
     (4, 1),
@@ -51,13 +51,13 @@ const MONITOR_REGISTERS: [u32; 19] = [
     0xB5, 0xB6, 0xB7,
 ];
 
-/// Not listed, next to listed ones.
+/// Indices that name no register, next to those that do.
 const MONITOR_UNLISTED: [u32; 16] = [
     0x00, 0x3F, 0x41, 0x6D, 0x70, 0x7B, 0x7D, 0x7F, 0x89, 0x8F, 0x92, 0xB4, 0xB8, 0xC0, 0xE6, 0xFF,
 ];
 
-/// Bases that are 0 once masked, that end up beside or under other blocks, and plain ones. Some
-/// would meet 002Eh or AC00h only if they were used unmasked.
+/// Ordinary bases, bases that are 0 after masking, and bases that place a block next to or over
+/// another one. Some would reach 002Eh or AC00h only if they were used without the mask.
 const RUNTIME_BASES: [u32; 20] = [
     0x0A00, 0x0A00, 0x0A7F, 0x0400, 0x0080, 0x00FF, 0x0000, 0x0001, 0x007F, 0xAB80, 0xABFF, 0xAB90,
     0xABAF, 0xAC00, 0xAC1F, 0xFF80, 0xFFBE, 0xFFBF, 0xFFFF, 0x0100,
@@ -99,7 +99,7 @@ const IRQS: [u32; 16] = [
     0x8000_000F,
 ];
 
-/// Single bits that PM1a_EN keeps, with none at times.
+/// Single bits of the mask of PM1a_EN, and sometimes none.
 const PM1_ENABLES: [u32; 7] = [0, 0x001, 0x020, 0x100, 0x200, 0x400, 0x721];
 
 const TIMERS: [u32; 14] = [
@@ -107,7 +107,7 @@ const TIMERS: [u32; 14] = [
     0x7F_FFFE, 0x80_0000, 0x7F_0001, 0xFF_FF00, 0, 1,
 ];
 
-/// Writes exactly so many commands. The last line feed is left out at times.
+/// Writes exactly this many commands. Sometimes the last line has no line feed.
 pub fn write_commands(
     source: &'static Source,
     seed: u64,
@@ -124,7 +124,7 @@ pub fn write_commands(
         last_is_empty = line.is_empty();
         output.write_all(&line)?;
     }
-    // An empty last line is a command only with its line feed.
+    // An empty last line is a command only if it has a line feed.
     if count > 0 && (last_is_empty || !generator.random.one_in(4)) {
         output.write_all(b"\n")?;
     }
@@ -134,7 +134,7 @@ pub fn write_commands(
 pub struct Generator {
     source: &'static Source,
     pub random: Random,
-    /// The device and the sequencer as they stand behind the commands planned so far.
+    /// The device and the sequencer after the commands planned so far.
     pub session: Session,
     planned: VecDeque<Vec<u8>>,
     ranged_fields: Vec<(usize, usize)>,
@@ -144,9 +144,9 @@ pub type Scenario = fn(&mut Generator);
 
 /// Where commands come from.
 pub struct Source {
-    /// What may come next, with weights.
+    /// The kinds of commands that may come next, with their weights.
     pub scenarios: &'static [(u32, Scenario)],
-    /// Whether the state or the outputs are looked at in between.
+    /// Whether commands that print the state or the outputs are added in between.
     pub looks: bool,
 }
 
@@ -240,7 +240,7 @@ impl Generator {
         self.answered_line(line);
     }
 
-    /// Plans a line and gives the answer to it.
+    /// Plans a line and returns the answer to it.
     pub fn answered_line(&mut self, line: &[u8]) -> Reply {
         self.planned.push_back(line.to_vec());
         self.session.answer(line)
@@ -298,7 +298,7 @@ impl Generator {
         line.into_bytes()
     }
 
-    /// Any writing of a number that is one to eight hex digits.
+    /// A number in one to eight hex digits, in upper or lower case, with or without leading zeros.
     fn number(&mut self, number: u32) -> String {
         self.random.writing(number)
     }
@@ -341,7 +341,7 @@ impl Generator {
     fn key_base(&mut self) -> u32 {
         match self.random.below(8) {
             0 => self.random.bits(16),
-            // Over the monitor's two ports.
+            // On the two ports of the monitor.
             1 => {
                 let runtime = u16::from_be_bytes(self.device().configuration.runtime_base);
                 u32::from(runtime & 0xFF80) | 0x60 | self.random.below(32)
@@ -399,7 +399,7 @@ impl Generator {
         }
     }
 
-    /// All lock combinations, then a second write, and at times the PCI reset behind it.
+    /// All lock combinations, then a second write, and sometimes a PCI reset after it.
     fn drive_key_control(&mut self) {
         self.select_runtime_device();
         let control = self.random.below(8) | self.random.pick(&[0, 0, 0x08, 0xF8]);
@@ -476,13 +476,13 @@ impl Generator {
                 }
             }
         }
-        // Under Lock most writes end the same way; leave it behind at times.
+        // If Lock is set, most writes give the same answer; so clear it sometimes.
         if self.device().monitor.registers[0] != 0 && self.random.one_in(4) {
             self.event(6, 1);
         }
     }
 
-    /// 7Ch, 7Eh and 83h around the condition of the interrupt.
+    /// Writes 7Ch, 7Eh and 83h so that the condition of the interrupt changes.
     fn drive_monitor_interrupt(&mut self) {
         let Some(port) = self.monitor_port() else {
             return;
@@ -558,7 +558,7 @@ impl Generator {
         }
     }
 
-    /// All offsets by all widths, reads and writes.
+    /// Reads and writes of all offsets at all widths.
     fn poke_acpi_anywhere(&mut self) {
         for _ in 0..=self.random.below(4) {
             let offset = self.random.below(32);
@@ -595,7 +595,7 @@ impl Generator {
     fn map_value(&mut self) -> u32 {
         let legal = self.legal_map();
         match self.random.below(12) {
-            // One bit the other way, each of the 32 in turn.
+            // One of the 32 bits inverted, each in turn.
             0..=1 => legal ^ 1 << self.random.below(32),
             2 => legal & !0xFF | self.random.pick(&ILLEGAL_MAP_TARGETS),
             _ => legal,
@@ -616,7 +616,7 @@ impl Generator {
         }
     }
 
-    /// Leaves little or nothing pending.
+    /// Clears most or all of what is pending.
     fn calm(&mut self) {
         match self.random.below(3) {
             0 => {
@@ -705,7 +705,7 @@ impl Generator {
             self.read(1, port);
         }
         match (self.random.below(5), gpe) {
-            // Something else, which perhaps does not wake.
+            // Something else, which may or may not wake the chip.
             (0, _) => self.outside_event(),
             (_, true) => self.raise_by_pin(bit),
             (_, false) => self.raise_pm1(bit),
@@ -742,7 +742,7 @@ impl Generator {
         }
     }
 
-    /// Loads a timer near its ends, then ticks.
+    /// Loads a timer near 0 or near its wrap, then applies ticks.
     fn drive_timer(&mut self) {
         let mut bytes = state::encode(self.device());
         let timer = self.random.pick(&TIMERS);
@@ -769,7 +769,7 @@ impl Generator {
         }
     }
 
-    /// Often just to, over or short of the next wrap or its half.
+    /// Ticks that often end at, just after or just before the next wrap, or half of it.
     fn ticks(&mut self) -> u32 {
         let timer = self.device().acpi.timer;
         let to_end = (1u32 << 24).saturating_sub(timer);
@@ -840,7 +840,7 @@ impl Generator {
         self.line(b"S");
     }
 
-    // Ports beside and between the blocks.
+    // Ports next to and between the blocks.
 
     fn edge_port(&mut self) -> u32 {
         let configuration = &self.device().configuration;
@@ -891,7 +891,7 @@ impl Generator {
         }
     }
 
-    /// A state in range; settled or not.
+    /// A state in range, settled or not.
     pub fn good_state(&mut self) -> StateBytes {
         let mut device = self.device().clone();
         if !device.in_range() {
@@ -971,8 +971,8 @@ impl Generator {
         }
     }
 
-    /// Statuses and enables that meet, asleep or in a CPU state: then something that settles, or
-    /// that is refused and so does not.
+    /// A state with something pending, asleep or with a CPU state. Then a command that settles it,
+    /// or one that is refused and does not.
     fn unsettled_state(&mut self) {
         let mut bytes = self.good_state();
         let bit = self.random.pick(&[0x0001, 0x0020, 0x0100, 0x0200, 0x0400]);
@@ -1010,7 +1010,8 @@ impl Generator {
         self.line(b"S");
     }
 
-    /// A state with one field at or over a boundary; then probes, and a way back.
+    /// A state with one field at or beyond a limit; then a few commands, and a state in range
+    /// again.
     fn load_boundary(&mut self) {
         let before = self.good_state();
         let bytes = self.boundary_state(&before);
@@ -1038,8 +1039,8 @@ impl Generator {
         }
     }
 
-    /// PM1a_STS and PM1a_EN share a bit outside the latter's mask, or outside both. Outputs are
-    /// computed from the state as it stands.
+    /// PM1a_STS and PM1a_EN share a bit outside the mask of PM1a_EN, or outside both masks. The
+    /// outputs are computed from the present state.
     fn shared_bit_outside_masks(&mut self) {
         let before = self.good_state();
         let mut bytes = before;
@@ -1068,7 +1069,7 @@ impl Generator {
             let value = self.boundary_value(offset, size);
             put(&mut bytes, offset, size, value);
             let legal = state::decode(&bytes).is_some_and(|device| device.in_range());
-            // Mostly over the boundary; at times just inside.
+            // Mostly beyond the limit, sometimes just inside.
             if !legal || self.random.one_in(6) {
                 break;
             }
@@ -1100,7 +1101,7 @@ impl Generator {
         self.random.bits(8 * size as u32)
     }
 
-    // Damage.
+    // Damaged commands.
 
     fn damaged_access(&mut self) {
         let (offset, width) = self.random.pick(&ACPI_REGISTERS);
@@ -1127,7 +1128,7 @@ impl Generator {
             }
             3 | 4 => self.read(width, far),
             5 => self.write(width, far, value),
-            // Too wide, by a little or by much.
+            // Too wide, by one or by many bits.
             6 => {
                 let wide = self
                     .random
@@ -1175,7 +1176,7 @@ impl Generator {
         self.line(&line);
     }
 
-    /// A sound command to damage.
+    /// A valid command, to be damaged.
     fn sound_line(&mut self) -> Vec<u8> {
         let (offset, width) = self.random.pick(&ACPI_REGISTERS);
         match self.random.below(10) {
@@ -1196,7 +1197,7 @@ impl Generator {
         }
     }
 
-    /// A line that is `UNREAD`, or nearly.
+    /// A line that is `UNREAD`, or almost.
     fn malformed(&mut self) {
         if self.random.one_in(260) {
             let line = self.long_line();
@@ -1206,7 +1207,8 @@ impl Generator {
         self.damage_line(line);
     }
 
-    /// A line with one thing wrong, or nearly; no longer than lines may be, if it was short.
+    /// A line with one fault, or almost. It keeps within the length limit if the original line was
+    /// short.
     pub fn damage_line(&mut self, mut line: Vec<u8>) {
         let place = self.random.below(line.len() as u32) as usize;
         let end = line.len();
@@ -1270,7 +1272,9 @@ impl Generator {
                     0 => line.truncate(line.len() - 2),
                     1 => line.truncate(line.len() - 1),
                     2 => line.extend_from_slice(b"00"),
-                    _ => line.truncate(2 + 2 * self.random.below(state::STATE_BYTES as u32) as usize),
+                    _ => {
+                        line.truncate(2 + 2 * self.random.below(state::STATE_BYTES as u32) as usize)
+                    }
                 }
             }
             18 => {
@@ -1351,7 +1355,7 @@ impl Generator {
         self.line(&line);
     }
 
-    /// A short script; the device has no part in it.
+    /// A short script that does not use the device.
     fn compile_script(&mut self) {
         let line = scripts::short_command(&mut self.random);
         self.line(&line);
@@ -1373,8 +1377,8 @@ impl Generator {
         }
     }
 
-    /// A line about as long as lines may be. What stands behind the limit would be a command by
-    /// itself, for a reader that cuts lines.
+    /// A line of about the greatest length. The part after the limit is a command by itself, so
+    /// that a reader that wrongly splits long lines gives another answer.
     fn long_line(&mut self) -> Vec<u8> {
         let filler = self.random.pick(b"0 AFx\0\xFF");
         let head: &[u8] = self.random.pick(&[b"L ", b"E ", b"O ", b"S", b"R 1 ", b""]);
@@ -1393,9 +1397,9 @@ impl Generator {
     }
 }
 
-/// Fields of the state that can be out of range, by offset and bytes.
+/// Fields of the state that can be out of range: offset and number of bytes.
 fn ranged_fields() -> Vec<(usize, usize)> {
-    // Those with many boundaries stand several times.
+    // Fields with many limits are listed several times.
     let mut fields = vec![
         (state::UNLOCKED, 1),
         (state::ACTIVATE, 1),
@@ -1430,7 +1434,7 @@ fn ranged_fields() -> Vec<(usize, usize)> {
     fields
 }
 
-/// Puts a number of so many bytes, least byte first.
+/// Stores a number in this many bytes, low byte first.
 fn put(bytes: &mut StateBytes, offset: usize, size: usize, value: u32) {
     let value = value.to_le_bytes();
     bytes[offset..offset + size].copy_from_slice(&value[..size]);

@@ -1,4 +1,5 @@
-//! Random commands that run images: compiled ones, damaged ones and ones made up of any words.
+//! Random commands that run images: compiled ones, damaged ones, and ones that consist of arbitrary
+//! words.
 
 use crate::compiler::{
     Record, DELAY, ENTER, HALT, JUMP, LOOP_END, READ, RECORD_BYTES, SCRIPT_MARK, TEST, WORD_LIMIT,
@@ -32,7 +33,7 @@ const KINDS: [u8; 13] = [
 ];
 
 impl Generator {
-    /// An image, a sequencer to start from, and one run or a few that go on with each other.
+    /// An image, a sequencer to start from, and one run, or a few runs that resume each other.
     pub fn run_image(&mut self) {
         let image = self.image();
         self.aim_sequencer(&image);
@@ -56,7 +57,7 @@ impl Generator {
             };
             let events = self.event_list(8, image.len() < 13_000);
             let line = self.run_line('X', budget, size as usize, &events, &image);
-            // A halt or a fault would mostly come again at once.
+            // After a halt or a fault the next run would mostly end the same way at once.
             if !stopped(&self.answered_line(&line)) && !self.random.one_in(4) {
                 break;
             }
@@ -70,7 +71,7 @@ impl Generator {
 
     // Sequencers.
 
-    /// Mostly at a place of the image.
+    /// A sequencer, mostly at a place inside the image.
     fn aim_sequencer(&mut self, image: &[u8]) {
         let words = (image.len() / RECORD_BYTES) as u32;
         let place = self.random.below(words);
@@ -93,7 +94,7 @@ impl Generator {
                 let sequencer = self.illegal_sequencer(place);
                 self.put_sequencer(sequencer);
             }
-            // No counter for a loop end, or none free for an enter, at times.
+            // Sometimes no counter for a loop end, or no free counter for an enter.
             (6..=8, Some(place)) => {
                 let used = match self.random.below(5) {
                     0 => 0,
@@ -103,13 +104,13 @@ impl Generator {
                 let sequencer = self.sequencer_with(place as u32, used);
                 self.put_sequencer(sequencer);
             }
-            // As it stands, if that is a place of this image.
+            // The present sequencer, if its place is inside this image.
             (10..=12, _) if self.session.sequencer().place < words => {}
             _ => self.put_sequencer(Sequencer::fresh()),
         }
     }
 
-    /// The place of some word of these kinds.
+    /// The place of a random word of these kinds.
     fn find_word(&mut self, image: &[u8], kinds: &[u8]) -> Option<usize> {
         let (words, _) = image.as_chunks::<RECORD_BYTES>();
         let kind = self.random.pick(kinds);
@@ -165,7 +166,7 @@ impl Generator {
         image_of(&scripts::encode(&script))
     }
 
-    /// So many words; it goes on to its end at times.
+    /// An image of this many words. Sometimes a run reaches its end.
     fn long_image(&mut self, count: usize) -> Vec<u8> {
         let mut words = match self.random.below(3) {
             0 => decode(&self.compiled_image()),
@@ -189,12 +190,12 @@ impl Generator {
         scripts::encode(&words)
     }
 
-    /// Good words in any order; targets are mostly places of the image.
+    /// Valid words in any order. Targets are mostly places inside the image.
     fn any_words(&mut self, count: usize) -> Vec<Record> {
         (0..count).map(|_| self.any_word(count)).collect()
     }
 
-    /// A word that is good by itself, for an image of so many.
+    /// A word without a fault of its own, for an image of this many words.
     fn any_word(&mut self, count: usize) -> Record {
         let kind = self.random.pick(&KINDS);
         let mut word = match kind {
@@ -232,7 +233,7 @@ impl Generator {
         }
     }
 
-    /// A few words that lead somewhere.
+    /// A few words that end in a particular way.
     fn pattern(&mut self) -> Vec<Record> {
         let turns = self.random.pick(&[1, 2, 3, 65_535]);
         let read = Record {
@@ -255,13 +256,13 @@ impl Generator {
         };
         let halt = Record::of_image(HALT);
         match self.random.below(8) {
-            // Pushes until there is no counter left.
+            // Enters loops until no counter is free.
             0 => vec![enter(2), read, to(JUMP, 0)],
             1 => vec![enter(0), enter(1), to(JUMP, 0)],
-            // Loop ends until there is none.
+            // Ends loops until no counter is in use.
             2 => vec![enter(3), enter(3), to(LOOP_END, 2), to(JUMP, 2), halt],
             3 => vec![to(LOOP_END, 0), halt],
-            // For ever.
+            // An endless loop.
             4 => vec![read, to(JUMP, 0)],
             5 => vec![
                 Record { target: 2, ..test },
@@ -271,18 +272,18 @@ impl Generator {
             ],
             // A read for each turn.
             6 => vec![enter(3), read, to(LOOP_END, 1), halt],
-            // Over its own end.
+            // Runs past its last word.
             _ => vec![enter(2), read, to(LOOP_END, 1)],
         }
     }
 
-    /// One thing wrong, or at least another.
+    /// Changes one thing in an image, which often makes it faulty.
     fn damage_image(&mut self, image: &mut Vec<Record>) {
         let count = image.len();
         if count == 0 {
             return;
         }
-        // Rather near the front, where runs come by.
+        // Mostly near the start, because most runs reach it.
         let place = self
             .random
             .below(count as u32)
@@ -332,7 +333,7 @@ impl Generator {
                 image.insert(place, word);
             }
             13 => image[place].kind = 1 + self.random.below(8) as u8,
-            // Without its halt, a run goes over the end.
+            // Without its halt a run goes past the last word.
             14 => {
                 image.pop();
             }
@@ -358,7 +359,8 @@ impl Generator {
     }
 }
 
-/// Whether a run stopped early, so that it can be gone on with; a short log can be followed by another.
+/// Whether a run stopped early and can be resumed. After a full log it can be resumed with another
+/// log.
 fn stopped(reply: &Reply) -> bool {
     let Reply::Ran(ran) = reply else {
         return false;
@@ -367,7 +369,7 @@ fn stopped(reply: &Reply) -> bool {
         .is_ok_and(|ended| matches!(ended.ending, Ending::BudgetSpent | Ending::LogFull))
 }
 
-/// Takes whole words apart.
+/// Decodes an image into words.
 fn decode(image: &[u8]) -> Vec<Record> {
     let (words, _) = image.as_chunks::<RECORD_BYTES>();
     words.iter().map(Record::decode).collect()

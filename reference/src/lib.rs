@@ -1,4 +1,4 @@
-//! The independent second program as a library: what its command, its tests and the benchmark use.
+//! The independent model as a library, for its command, its tests and the benchmark.
 
 #![forbid(unsafe_code)]
 

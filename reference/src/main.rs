@@ -1,5 +1,5 @@
-//! The independent second program. It is written from document 01 and docs/CASES.md alone,
-//! so that its answers can be compared byte for byte with those of `replay`.
+//! The independent model as a program. It was written from the rules of the chip and docs/CASES.md,
+//! and not from the code of `replay`, so that their answers can be compared byte for byte.
 
 #![forbid(unsafe_code)]
 
@@ -23,7 +23,7 @@ const BUFFER_BYTES: usize = 1 << 16;
 
 enum Task {
     Answer,
-    /// Commands from a source.
+    /// Prints commands of a source.
     Commands {
         source: &'static Source,
         seed: u64,
@@ -81,7 +81,7 @@ fn main() -> ExitCode {
         .map(|argument| argument.to_string_lossy().into_owned())
         .collect();
     let Some(task) = task(&arguments) else {
-        // Nothing sensible is left to do if the complaint itself cannot be written.
+        // If even the error message cannot be written, there is nothing left to do.
         let _ = io::stderr().write_all(USAGE.as_bytes());
         return ExitCode::from(2);
     };

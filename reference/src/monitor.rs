@@ -1,4 +1,4 @@
-//! The hardware monitor's index, data registers and interrupt (document 01, "Monitor registers").
+//! The hardware monitor: its index, its data registers and its interrupt.
 
 use crate::device::Denial;
 
@@ -35,7 +35,7 @@ const fn read_only(index: u8, reset: u8) -> Register {
 
 pub const REGISTER_COUNT: usize = 19;
 
-/// The listed registers in the order of their indices, which is also the order in the state bytes.
+/// The registers in the order of their indices, which is also the order in the saved state.
 const REGISTERS: [Register; REGISTER_COUNT] = [
     register(0x40, Kind::Lock, 0x00, LOCK, true),
     read_only(0x6E, 0x44),
@@ -58,7 +58,7 @@ const REGISTERS: [Register; REGISTER_COUNT] = [
     register(0xB7, Kind::ReadWrite, 0x00, 0x0F, true),
 ];
 
-/// The place of each index in the table above; none for those not listed.
+/// The place of each index in the table above, or none if no register has that index.
 const PLACES: [Option<usize>; 256] = {
     let mut places = [None; 256];
     let mut place = 0;
@@ -105,7 +105,7 @@ impl Monitor {
         }
     }
 
-    /// Read-only registers at their reset.
+    /// Do the read-only registers have their reset values?
     pub fn read_only_at_reset(&self) -> bool {
         self.registers
             .iter()
@@ -113,7 +113,7 @@ impl Monitor {
             .all(|(value, register)| register.kind != Kind::Read || *value == register.reset)
     }
 
-    /// Every register within its mask, and the read-only ones at their reset.
+    /// Is every register within its mask, and every read-only register at its reset value?
     pub fn in_range(&self) -> bool {
         let masked = self
             .registers
@@ -123,7 +123,7 @@ impl Monitor {
         masked && self.read_only_at_reset()
     }
 
-    /// The place of the register that the index names; an index not listed is status 4.
+    /// The place of the register that the index names. If there is none, the status is 4.
     fn selected(&self) -> Result<usize, Denial> {
         PLACES[usize::from(self.index)].ok_or(Denial::NoRegister)
     }
@@ -157,7 +157,7 @@ impl Monitor {
         self.registers[INTERRUPT_STATUS] |= bits & (STATUS_VBAT | STATUS_VTR);
     }
 
-    /// INTEN, VOLT and either both VTR bits or both VBAT bits.
+    /// On if INTEN, VOLT and either both VTR bits or both VBAT bits are set.
     pub fn interrupt(&self) -> bool {
         let control = self.registers[INTERRUPT_CONTROL];
         let enable = self.registers[INTERRUPT_ENABLE];

@@ -1,10 +1,10 @@
-//! The script's own run: the records walked block by block. It has no words, no budget and no log
-//! size, and shares nothing with the compiler's words or the sequencer.
+//! An interpreter of scripts: it runs the nested records block by block. It has no words, no budget
+//! and no log size, and shares no code with the compiler or the sequencer.
 
 use crate::compiler::{Record, DELAY, ELSE, END, IF, READ, RECORD_BYTES, REPEAT, WRITE};
 use crate::device::{Access, Answer, Device, Event, Width};
 
-/// A record with what lies inside it.
+/// A record with the records inside it.
 #[derive(Clone, Debug, PartialEq, Eq)]
 enum Node {
     Write {
@@ -30,7 +30,7 @@ enum Node {
     },
 }
 
-/// What stands behind a body.
+/// The record that ends a body.
 #[derive(Clone, Copy, Debug, PartialEq, Eq)]
 enum Behind {
     Else,
@@ -38,10 +38,13 @@ enum Behind {
     Nothing,
 }
 
-/// The nested reading of a script that the compiler accepts.
+/// The nested form of a script that the compiler accepts.
 fn nest(script: &[u8]) -> Vec<Node> {
     let (records, rest) = script.as_chunks::<RECORD_BYTES>();
-    assert!(rest.is_empty(), "the script is whole records");
+    assert!(
+        rest.is_empty(),
+        "the length of the script is a multiple of 12"
+    );
     let mut records = records.iter().map(Record::decode);
     let (body, behind) = nest_body(&mut records);
     assert_eq!(behind, Behind::Nothing, "every else and end has its block");
@@ -100,7 +103,7 @@ fn width_of(record: &Record) -> Width {
     Width::of(u32::from(record.width)).expect("a width is 1, 2 or 4")
 }
 
-/// What the script's own run holds.
+/// The state of the interpreter.
 #[derive(Clone, Debug, PartialEq, Eq)]
 pub struct OwnRun<'a> {
     pub device: Device,
@@ -110,9 +113,9 @@ pub struct OwnRun<'a> {
     pub steps: u64,
 }
 
-/// The own run of a script that the compiler accepts, on a device in range, with good events. It
-/// can be as long as 65,535 turns eight times over, so it is given up where it would take more steps
-/// than the limit.
+/// Interprets a script that the compiler accepts, on a device in range, with valid events. Eight
+/// nested repeats of 65,535 turns would never end, so it returns nothing if the run would take more
+/// steps than the limit.
 pub fn own_run<'a>(
     script: &[u8],
     device: &Device,
@@ -130,7 +133,7 @@ pub fn own_run<'a>(
         step_limit,
     };
     walk.body(&nest(script))?;
-    // The one at the end.
+    // The step at the end of the script.
     walk.step()?;
     Some(walk.held)
 }
@@ -140,7 +143,7 @@ struct Walk<'a> {
     step_limit: u64,
 }
 
-/// Each part is none where the walk is given up.
+/// Each part returns nothing if the limit is exceeded.
 impl Walk<'_> {
     fn step(&mut self) -> Option<()> {
         self.held.steps += 1;
@@ -192,7 +195,7 @@ impl Walk<'_> {
         Some(())
     }
 
-    /// Of a read or a test: its value, at any status.
+    /// The value of a read or a test, at any status.
     fn read(&mut self, width: Width, port: u16) -> u32 {
         self.next_event();
         let answer = self.held.device.answer_read(width, port);
@@ -202,7 +205,7 @@ impl Walk<'_> {
 
     fn next_event(&mut self) {
         if let Some((number, left)) = self.held.events_left.split_first() {
-            let event = Event::decode(*number).expect("the events are good");
+            let event = Event::decode(*number).expect("the events are valid");
             self.held.device.happen(event);
             self.held.events_left = left;
         }

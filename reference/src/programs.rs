@@ -1,4 +1,4 @@
-//! Random scripts that do something on the device as it stands, and event lists to go with them.
+//! Random scripts that have an effect on the present device, and event lists for them.
 
 use crate::compiler::{
     Record, BLOCK_LIMIT, DELAY, ELSE, END, IF, READ, REPEAT, REPEAT_LIMIT, WRITE,
@@ -10,11 +10,12 @@ const INDEX_PORT: u16 = 0x2E;
 const DATA_PORT: u16 = 0x2F;
 const ACPI_PORT: u16 = 0xAC00;
 
-/// Where a script places the monitor and the key, unless the device has them already.
+/// The bases that a script gives the monitor and the key, unless the device has active ones
+/// already.
 const MONITOR_PORT: u16 = 0x0A70;
 const KEY_PORT: u16 = 0x0100;
 
-/// ACPI offsets with the width each is taken at.
+/// ACPI offsets, each with the width that it takes.
 const ACPI_REGISTERS: [(u16, u8); 12] = [
     (0, 4),
     (4, 1),
@@ -46,7 +47,7 @@ const STATUS_BITS: [u32; 9] = [
 const ENABLES: [u32; 7] = [0, 0x001, 0x020, 0x100, 0x200, 0x400, 0x721];
 const TIMER_BITS: [u32; 8] = [1, 1, 2, 3, 4, 0x100, 0xFF_FFFF, 0x8000];
 
-/// Turns of a repeat: few, so that a script in its depth still ends.
+/// Turns of a repeat. They are few, so that nested repeats end soon.
 const TURNS: [u32; 10] = [0, 1, 1, 2, 2, 2, 3, 3, 4, 5];
 const TURNS_OF_A_LADDER: [u32; 8] = [0, 1, 1, 1, 1, 2, 2, 3];
 
@@ -70,14 +71,14 @@ impl<'a> Programs<'a> {
         }
     }
 
-    /// A script of about so many statements, all blocks closed.
+    /// A script of about this many statements, with all blocks closed.
     pub fn script(&mut self, statements: u32) -> Vec<Record> {
         let mut script = Vec::new();
         self.body(&mut script, statements, 0, 0);
         script
     }
 
-    /// Blocks inside each other, up to as deep as they may lie.
+    /// Nested blocks, up to the greatest depth.
     pub fn deep_script(&mut self) -> Vec<Record> {
         let repeats = match self.random.below(3) {
             0 => REPEAT_LIMIT,
@@ -98,7 +99,7 @@ impl<'a> Programs<'a> {
         script
     }
 
-    /// As many records as make about so many words, at least a thousand of them plain.
+    /// A script without blocks that compiles to about this many words.
     pub fn long_script(&mut self, words: usize) -> Vec<Record> {
         let mut script = Vec::new();
         while script.len() + 30 < words {
@@ -172,7 +173,7 @@ impl<'a> Programs<'a> {
         script.push(Record::of_script(END));
     }
 
-    /// One record or a few that belong together.
+    /// One record, or a few that belong together.
     fn statement(&mut self, script: &mut Vec<Record>) {
         match self.random.below(16) {
             0 => script.push(write(1, INDEX_PORT, 0x55)),
@@ -248,7 +249,7 @@ impl<'a> Programs<'a> {
         write(1, DATA_PORT, value)
     }
 
-    /// Unlocks, and places monitor and key where the scripts look for them.
+    /// Unlocks the configuration and gives the monitor and the key the bases that the scripts use.
     fn place_blocks(&mut self, script: &mut Vec<Record>) {
         let [runtime_high, runtime_low] = self.monitor_port.to_be_bytes();
         let [key_high, key_low] = self.key_port.to_be_bytes();
@@ -333,7 +334,7 @@ impl<'a> Programs<'a> {
         }
     }
 
-    /// An if, its mask mostly one that may go either way.
+    /// An if. With most of its masks both results are possible.
     pub fn test(&mut self) -> Record {
         let (width, port, mask) = match self.random.below(12) {
             0..=2 => (2, ACPI_PORT + 8, self.random.pick(&STATUS_BITS)),
@@ -362,7 +363,7 @@ impl<'a> Programs<'a> {
         }
     }
 
-    /// Often a few, or just to, over or short of the timer's next wrap.
+    /// Ticks: often a few, or up to, just after or just before the next wrap of the timer.
     fn ticks(&mut self) -> u32 {
         let to_end = (1u32 << 24).saturating_sub(self.timer);
         match (self.random.below(4), to_end) {
@@ -374,7 +375,7 @@ impl<'a> Programs<'a> {
 
     // Events.
 
-    /// So many good events.
+    /// This many valid events.
     pub fn events(&mut self, count: usize) -> Vec<u32> {
         (0..count).map(|_| self.event()).collect()
     }

@@ -30,12 +30,12 @@ impl Random {
         (self.next() >> 56) as u8
     }
 
-    /// One of the items, which are not empty.
+    /// One of the items. There must be at least one.
     pub fn pick<T: Copy>(&mut self, items: &[T]) -> T {
         items[self.below(items.len() as u32) as usize]
     }
 
-    /// Any writing of a number that is one to eight hex digits.
+    /// A number in one to eight hex digits, in upper or lower case, with or without leading zeros.
     pub fn writing(&mut self, number: u32) -> String {
         match self.below(10) {
             0 => format!("{number:x}"),
@@ -47,7 +47,7 @@ impl Random {
         }
     }
 
-    /// A byte string in digits of one case.
+    /// A byte string, in upper or lower case.
     pub fn digits(&mut self, bytes: &[u8]) -> String {
         let digits: &[u8; 16] = match self.one_in(4) {
             true => b"0123456789abcdef",
@@ -60,7 +60,7 @@ impl Random {
             .collect()
     }
 
-    /// A number of so many bits: often 0, all ones or a single bit.
+    /// A number of this many bits: often 0, all ones or a single bit.
     pub fn bits(&mut self, bits: u32) -> u32 {
         let all = u32::MAX >> 32u32.saturating_sub(bits).min(31);
         match self.below(8) {

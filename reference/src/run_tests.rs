@@ -1,4 +1,4 @@
-//! Document 01's cases for runs, and the commands of docs/CASES.md that run something.
+//! Tests of runs, and of the commands of docs/CASES.md that run something.
 
 use crate::compiler::{
     compile, Record, DELAY, ELSE, END, ENTER, HALT, IF, JUMP, LOOP_END, READ, RECORD_BYTES, REPEAT,
@@ -56,7 +56,7 @@ fn end() -> Record {
     record(END, 0, 0, 0)
 }
 
-/// The timer, one more at each tick.
+/// A read of the timer, which each tick increases by one.
 fn read_timer() -> Record {
     record(READ, 4, 0xAC18, 0)
 }
@@ -91,7 +91,7 @@ fn bytes(records: &[Record]) -> Vec<u8> {
 
 fn compiled(script: &[Record]) -> Vec<u8> {
     let mut image = vec![0; 12_288];
-    let words = compile(&bytes(script), &mut image).expect("script is good");
+    let words = compile(&bytes(script), &mut image).expect("the script is valid");
     image.truncate(words * RECORD_BYTES);
     image
 }
@@ -106,7 +106,7 @@ fn sequencer(place: u32, counters: &[u32]) -> Sequencer {
     sequencer
 }
 
-/// Everything that a run leaves.
+/// Everything that a run changes.
 #[derive(Clone, Debug, PartialEq, Eq)]
 struct Left {
     outcome: Result<Ended, Refusal>,
@@ -146,7 +146,7 @@ fn run_from(
     left
 }
 
-/// On the fresh device.
+/// Runs words on the fresh device.
 fn run_words(start: Sequencer, words: &[Record], budget: u32, size: usize) -> Left {
     run_from(start, &bytes(words), &[], budget, size, &Device::fresh())
 }
@@ -160,13 +160,14 @@ fn ended(ending: Ending, steps: u64, events_taken: usize, values_logged: usize) 
     }
 }
 
-/// Runs the script both ways on the fresh device, and gives its steps and the values logged.
+/// Runs the script on the fresh device, interpreted and compiled, and returns its steps and the
+/// logged values.
 fn run_script(script: &[Record], events: &[u32]) -> (u64, Vec<u32>) {
     let fresh = Device::fresh();
-    let own = own_run(&bytes(script), &fresh, events, u64::MAX).expect("nothing is given up");
+    let own = own_run(&bytes(script), &fresh, events, u64::MAX).expect("the steps are not limited");
     let image = compiled(script);
     let size = own.values.len() + 2;
-    let budget = u32::try_from(own.steps).expect("scripts are short");
+    let budget = u32::try_from(own.steps).expect("the script takes few steps");
     let left = run_from(Sequencer::fresh(), &image, events, budget, size, &fresh);
     let taken = events.len() - own.events_left.len();
     assert_eq!(
@@ -179,7 +180,7 @@ fn run_script(script: &[Record], events: &[u32]) -> (u64, Vec<u32>) {
     assert_eq!(left.sequencer, sequencer(halt as u32, &[]));
     assert_eq!(left.log[..own.values.len()], own.values);
     assert_eq!(left.log[own.values.len()..], [LENT; 2]);
-    // The own run is given up exactly where it would take more steps than the limit.
+    // The interpreter gives up exactly if the run would take more steps than the limit.
     for limit in [0, own.steps / 2, own.steps - 1] {
         assert_eq!(own_run(&bytes(script), &fresh, events, limit), None);
     }
@@ -207,7 +208,7 @@ fn p11_takes_four_steps_or_three() {
     ];
     assert_eq!(run_script(&script, &[TICK]), (4, vec![0xFF]));
     assert_eq!(run_script(&script, &[]), (3, vec![0xFFFF]));
-    // Without else the then-part costs no jump.
+    // Without an else there is no jump after the body of the if.
     let script = [if_timer(1), read(0x2E), end()];
     assert_eq!(run_script(&script, &[TICK]), (3, vec![0xFF]));
     assert_eq!(run_script(&script, &[]), (2, vec![]));
@@ -237,11 +238,11 @@ fn empty_and_nested_scripts() {
     assert_eq!(run_script(&[repeat(0), end()], &[]), (2, vec![]));
     assert_eq!(run_script(&[repeat(3), end()], &[]), (5, vec![]));
     assert_eq!(run_script(&[repeat(65_535), end()], &[]), (65_537, vec![]));
-    // Eight deep, two turns each: 2 + 4 + .. + 256 turns, 1 + 2 + .. + 128 enters.
+    // Eight nested repeats of two turns each: 2 + 4 + .. + 256 turns, 1 + 2 + .. + 128 enters.
     let deep = [vec![repeat(2); 8], vec![read(0x2E)], vec![end(); 8]].concat();
     let (steps, values) = run_script(&deep, &[]);
     assert_eq!((steps, values.len()), (510 + 255 + 256 + 1, 256));
-    // Sixteen deep, with an else at each level.
+    // Sixteen nested ifs, each with an else.
     let mut ladder = vec![if_timer(1); 16];
     ladder.extend([or_else(), read_timer(), end()].repeat(16));
     assert_eq!(run_script(&ladder, &[TICK]), (33, vec![]));
@@ -262,7 +263,7 @@ fn events_come_before_accesses() {
         read_timer(),
         read_timer(),
     ];
-    // A delay takes none from the list; a write and a test do.
+    // A delay takes no event from the list; a write and a test do.
     let events = [TICK; 5];
     let (steps, values) = run_script(&script, &events);
     assert_eq!((steps, values), (11, vec![0x11, 0x15, 0x15]));
@@ -338,7 +339,8 @@ fn budget_is_looked_at_first() {
     assert_eq!(one_less.sequencer, sequencer(3, &[]));
     let exact = stopped(6, 2);
     assert_eq!(exact.outcome, Ok(ended(Ending::Halted, 6, 2, 2)));
-    // A full log met with the budget spent is 19; with one more, 24, and no event is taken.
+    // If the log is full and the budget is spent, the run ends with 19. With one more step in the
+    // budget it ends with 24, and takes no event.
     let spent = stopped(3, 1);
     assert_eq!(spent.outcome, Ok(ended(Ending::BudgetSpent, 3, 1, 1)));
     let full = stopped(4, 1);
@@ -346,7 +348,7 @@ fn budget_is_looked_at_first() {
     assert_eq!(full.sequencer, sequencer(1, &[1]));
     assert_eq!(full.device.acpi.timer, 1);
     assert_eq!(full.log, [1]);
-    // Before the place and the word too.
+    // A spent budget also comes before a wrong place and a bad word.
     let bad = [Record::default()];
     for place in [0, 1, u32::MAX] {
         let left = run_words(sequencer(place, &[]), &bad, 0, 0);
@@ -373,10 +375,10 @@ fn a_stopped_run_goes_on() {
     let events = [TICK; 4];
     let whole = run_from(Sequencer::fresh(), &image, &events, 1_000, 20, &fresh);
     let Ok(whole_ended) = whole.outcome else {
-        panic!("nothing is refused");
+        panic!("the run was refused");
     };
     assert_eq!(whole_ended.ending, Ending::Halted);
-    // Step by step, each with a log of its own.
+    // Step by step, with a new log for each step.
     let mut start = Sequencer::fresh();
     let mut device = fresh;
     let mut taken = 0;
@@ -385,7 +387,7 @@ fn a_stopped_run_goes_on() {
     for step in 1..=whole_ended.steps {
         let left = run_from(start, &image, &events[taken..], 1, 1, &device);
         let last = step == whole_ended.steps;
-        let outcome = left.outcome.expect("nothing is refused");
+        let outcome = left.outcome.expect("the run is not refused");
         assert_eq!(outcome.steps, 1);
         assert_eq!(outcome.ending == Ending::Halted, last, "step {step}");
         taken += outcome.events_taken;
@@ -398,7 +400,7 @@ fn a_stopped_run_goes_on() {
     assert_eq!(log, whole.log[..whole_ended.values_logged]);
     assert_eq!(accesses, whole.accesses);
     assert_eq!((start, &device), (whole.sequencer, &whole.device));
-    // Halted, it halts again, one step each time.
+    // A halted sequencer halts again, one step each time.
     let again = run_from(start, &image, &events, 9, 1, &device);
     assert_eq!(again.outcome, Ok(ended(Ending::Halted, 1, 0, 0)));
     assert_eq!((again.sequencer, again.device), (start, device));
@@ -412,19 +414,19 @@ fn counters() {
     let nine = run_words(eight, &[enter(1, 1), halt()], 9, 0);
     assert_eq!(nine.outcome, Ok(ended(Ending::NinthCounter, 0, 0, 0)));
     assert_eq!(nine.sequencer, eight);
-    // Times 0 pushes none, so it is no ninth.
+    // A repeat of 0 turns pushes no counter, so it needs no ninth.
     let none = run_words(eight, &[enter(0, 2), jump(9), halt()], 9, 0);
     assert_eq!(none.outcome, Ok(ended(Ending::Halted, 2, 0, 0)));
     assert_eq!(none.sequencer, sequencer(2, &[5; 8]));
-    // Pushed one after another.
+    // Counters pushed one after another.
     let pushed = run_words(Sequencer::fresh(), &[enter(7, 0), jump(0)], 100, 0);
     assert_eq!(pushed.outcome, Ok(ended(Ending::NinthCounter, 16, 0, 0)));
     assert_eq!(pushed.sequencer, sequencer(0, &[7; 8]));
-    // A loop end without one.
+    // A loop end without a counter.
     let without = run_words(Sequencer::fresh(), &[loop_end(0), halt()], 9, 0);
     assert_eq!(without.outcome, Ok(ended(Ending::NoCounter, 0, 0, 0)));
     assert_eq!(without.sequencer, Sequencer::fresh());
-    // One off the top; the last pops it.
+    // Each loop end takes one from the top counter; the last one removes it.
     let turn = run_words(sequencer(1, &[9, 2]), &[halt(), loop_end(0)], 9, 0);
     assert_eq!(turn.outcome, Ok(ended(Ending::Halted, 2, 0, 0)));
     assert_eq!(turn.sequencer, sequencer(0, &[9, 1]));
@@ -448,7 +450,7 @@ fn places_and_targets_beyond_the_last_word() {
         assert_eq!(left.outcome, beyond);
         assert_eq!(left.sequencer, sequencer(place, &[]));
     }
-    // Behind the last word there is no place, but the word before it is done.
+    // The place after the last word is a fault, but the last word is executed.
     let left = run_words(Sequencer::fresh(), &[timer_word()], 9, 1);
     assert_eq!(left.outcome, Ok(ended(Ending::Beyond, 1, 0, 1)));
     assert_eq!(left.sequencer, sequencer(1, &[]));
@@ -463,7 +465,7 @@ fn places_and_targets_beyond_the_last_word() {
             word(TEST, 1, 0x2E, target, 1),
         ];
         for bad in words {
-            // Before 22 and 23, and no event is taken.
+            // It comes before 22 and 23, and no event is taken.
             for start in [sequencer(0, &[]), sequencer(0, &[1; 8])] {
                 let image = bytes(&[bad, halt()]);
                 let left = run_from(start, &image, &[TICK], 9, 0, &Device::fresh());
@@ -519,7 +521,7 @@ fn bad_words() {
         word(HALT, 0, 0, 1, 0),
         word(HALT, 0, 1, 0, 0),
         word(HALT, 1, 0, 0, 0),
-        // A target beyond the last word comes behind it.
+        // A target beyond the last word is checked after it.
         word(JUMP, 1, 0, 9, 0),
         word(ENTER, 0, 0, 9, 65_536),
     ];
@@ -585,7 +587,7 @@ fn refusals_of_runs_come_in_order() {
     assert_eq!(refusal, Refusal::StateOutOfRange);
     let refusal = refused(good, &image, &bad_events, &fresh);
     assert_eq!((refusal.number(), refusal.place()), (12, 1));
-    // Over 4,096 events it is always 4,096.
+    // With more than 4,096 events the place is always 4,096.
     let mut events = vec![TICK; 4_097];
     assert_eq!(
         refused(good, &image, &events, &fresh),
@@ -605,11 +607,11 @@ fn refusals_of_runs_come_in_order() {
     assert_eq!(left.outcome, Ok(ended(Ending::Halted, 1, 0, 0)));
 }
 
-// The commands.
+// Commands.
 
 fn answers_to(mut input: &[u8]) -> String {
     let mut output = Vec::new();
-    stream::answer_all(&mut input, &mut output).expect("memory takes everything");
+    stream::answer_all(&mut input, &mut output).expect("writing to memory does not fail");
     String::from_utf8(output).expect("answers are text")
 }
 
@@ -655,7 +657,7 @@ fn run_commands() {
         answers(&format!("T ff 1 3412000100000003 {read}")),
         format!("ENDED 0 2 1 1 1 {none} {after} 00001234\n")
     );
-    // The log is short; then the image again, gone on with.
+    // The log is too short; then the image resumes with another log.
     let image = hex(&compiled(&[read_timer()]));
     assert_eq!(
         answers(&format!(
@@ -681,7 +683,7 @@ fn run_commands_that_are_refused() {
         let (first, rest) = output.split_once('\n').expect("three lines");
         assert_eq!(first, "SET");
         let (answer, last) = rest.split_once('\n').expect("three lines");
-        // The sequencer is as it was.
+        // The sequencer has not changed.
         assert_eq!(last, format!("ENDED 19 0 0 0 {shown} {fresh}\n"));
         answer.to_string()
     };
@@ -700,7 +702,7 @@ fn run_commands_that_are_refused() {
     );
     assert_eq!(refused(&format!("T 9 0 {many} -")), with("12 4096", ""));
     assert_eq!(refused("T 0 0 00000000 -"), with("12 0", ""));
-    // The compiler comes first.
+    // The refusals of the compiler come first.
     assert_eq!(
         refused("T 9 2 00000000 00"),
         with("1 0", " A0000000A0000001")
@@ -709,7 +711,7 @@ fn run_commands_that_are_refused() {
     assert_eq!(refused(&format!("T 9 0 00000000 {open}")), with("7 2", ""));
     let long = hex(&bytes(&vec![write(0x2E, 0); 1_024]));
     assert_eq!(refused(&format!("T 9 0 - {long}")), with("8 1024", ""));
-    // A state out of range; the sequencer of a T is a fresh one.
+    // A state out of range. The sequencer of a `T` is a fresh one.
     let mut device = Device::fresh();
     device.acpi.timer = 1 << 24;
     let broken = hex(&state::encode(&device));
@@ -782,11 +784,12 @@ fn run_commands_that_are_unread() {
     assert!(log.ends_with("A00007FEA00007FF\n"));
 }
 
-// The random commands.
+// Random commands.
 
 fn commands(source: &'static Source, seed: u64, count: u64) -> Vec<u8> {
     let mut commands = Vec::new();
-    generate::write_commands(source, seed, count, &mut commands).expect("memory takes everything");
+    generate::write_commands(source, seed, count, &mut commands)
+        .expect("writing to memory does not fail");
     commands
 }
 
@@ -794,7 +797,7 @@ fn lines(commands: &[u8]) -> impl Iterator<Item = &[u8]> {
     commands.split(|byte| *byte == b'\n')
 }
 
-/// How often each ending and each refusal, by their numbers, answers one of these commands.
+/// Counts, by their numbers, how often each ending and each refusal answers these commands.
 fn outcomes(source: &'static Source, counted: &[u8]) -> ([u32; 25], [u32; 25]) {
     let commands = commands(source, 1, 6_000);
     let answers = answers_to(&commands);
@@ -832,7 +835,7 @@ fn random_scripts_end_in_every_way() {
         refusals[1..=8].iter().all(|count| *count >= 5),
         "{refusals:?}"
     );
-    // A compiled image run from fresh ends in no other way.
+    // A compiled image that starts from a fresh sequencer has no other endings.
     let named: u32 = [0, 19, 24].iter().map(|number| endings[*number]).sum();
     assert_eq!(named, endings.iter().sum(), "{endings:?}");
     assert_eq!((refusals[9], refusals[10]), (0, 0));

@@ -1,4 +1,4 @@
-//! Random commands that run scripts, mostly accepted ones, and what all random runs share.
+//! Random commands that run scripts, mostly valid ones, and functions that all random runs use.
 
 use crate::compiler::{self, RECORD_BYTES, WORD_LIMIT};
 use crate::generate::{Generator, Source};
@@ -22,10 +22,11 @@ pub const RUNS: Source = Source {
     looks: false,
 };
 
-/// A budget for scripts whose end is not known.
+/// The budget of scripts whose number of steps is not known.
 const LONGEST_BUDGET: u32 = 100_000;
 
-/// A script may stand beside more events than a run takes only if it is shorter than this.
+/// A command has more events than a run may have only if its script is shorter than this, so that
+/// the line is not too long.
 const SHORT_SCRIPT: usize = 14_000;
 
 impl Generator {
@@ -57,14 +58,14 @@ impl Generator {
             34 => {
                 let words = match self.random.below(4) {
                     0 => self.random.below(WORD_LIMIT as u32) as usize,
-                    // A word too many at times.
+                    // Sometimes one word too many.
                     1 => WORD_LIMIT + 1,
                     _ => WORD_LIMIT,
                 };
                 scripts::encode(&self.programs().long_script(words))
             }
             35..=37 => {
-                // One byte of an accepted script changed; often it is no longer accepted.
+                // A valid script with one byte changed. Often it is not valid any more.
                 let mut script = self.small_script();
                 if !script.is_empty() {
                     let place = self.random.below(script.len() as u32) as usize;
@@ -81,7 +82,8 @@ impl Generator {
         scripts::encode(&self.programs().script(statements))
     }
 
-    /// Budget and log mostly suffice; at times they do just so, or fall short.
+    /// Budget and log are mostly large enough. Sometimes they are exactly large enough, or too
+    /// small.
     fn script_line(&mut self, events: &[u32], script: &[u8]) -> Vec<u8> {
         let device = self.device();
         let accepted = compiler::compile(script, &mut [0; COMPILE_LIMIT]).is_ok()
@@ -98,14 +100,14 @@ impl Generator {
             let size = self.random.below(64) as usize;
             return self.run_line('T', budget, size, events, script);
         };
-        let steps = u32::try_from(own.steps).expect("the own run is short");
+        let steps = u32::try_from(own.steps).expect("the run is within the step limit");
         let budget = match self.random.below(24) {
             0 | 1 => steps,
             2 | 3 => steps - 1,
             4 => 0,
             5 => 1,
             6 | 7 => self.random.below(steps),
-            // It ends, so any budget does.
+            // The run ends, so any budget is possible.
             8 => u32::MAX,
             _ => steps + self.random.below(1_000),
         };
@@ -123,8 +125,8 @@ impl Generator {
 
     // Events.
 
-    /// A list of good events mostly; at times with a bad one, and if allowed with about as many as
-    /// a run takes, or more.
+    /// Mostly a list of valid events. Sometimes one event is not valid, or, if allowed, there are
+    /// about as many as a run may have, or more.
     pub fn event_list(&mut self, most: u32, many_allowed: bool) -> Vec<u32> {
         let many = many_allowed && self.random.one_in(40);
         let count = match self.random.below(8) {
@@ -198,7 +200,7 @@ impl Generator {
         self.sequencer_with(place, used)
     }
 
-    /// With so many counters in use.
+    /// A sequencer with this many counters in use.
     pub fn sequencer_with(&mut self, place: u32, used: u32) -> Sequencer {
         let mut sequencer = Sequencer {
             place,
@@ -215,18 +217,18 @@ impl Generator {
         sequencer
     }
 
-    /// Out of range in one way, mostly just so.
+    /// A sequencer that is out of range in one way, mostly by one.
     pub fn illegal_sequencer(&mut self, place: u32) -> Sequencer {
         let mut sequencer = self.legal_sequencer(place);
         let used = sequencer.used as usize;
         match self.random.below(5) {
-            // One more in use than there are, all of them good.
+            // One more counter in use than there are; all counters are valid.
             0 => {
                 sequencer = self.sequencer_with(place, COUNTER_LIMIT as u32);
                 sequencer.used += 1;
             }
             1 => sequencer.used = self.random.pick(&[9, 10, 255, 256, 264, 65_544, u32::MAX]),
-            // A counter in use too large.
+            // A counter in use that is too large.
             2 if used > 0 => {
                 let wrong = self.random.below(used as u32) as usize;
                 sequencer.counters[wrong] = match self.random.below(3) {
@@ -239,7 +241,7 @@ impl Generator {
                 let wrong = self.random.below(used as u32) as usize;
                 sequencer.counters[wrong] = 0;
             }
-            // One not in use that is not 0.
+            // A counter not in use that is not 0.
             _ if used < COUNTER_LIMIT => {
                 let rest = (COUNTER_LIMIT - used) as u32;
                 let wrong = used + self.random.below(rest) as usize;
@@ -280,7 +282,7 @@ impl Generator {
 
     // Devices out of range.
 
-    /// Runs that are refused, and a way back.
+    /// Runs that are refused, then a state in range again.
     pub fn run_on_broken_device(&mut self) {
         let before = self.good_state();
         let bytes = self.boundary_state(&before);
@@ -299,10 +301,10 @@ impl Generator {
         }
     }
 
-    // Damage.
+    // Damaged commands.
 
-    /// A sound command to damage. Whatever one digit more or less makes of it, it ends soon: scripts
-    /// have few turns, and the image has none.
+    /// A valid command, to be damaged. It still ends soon with one digit more or less, because
+    /// scripts have few turns and the image has none.
     pub fn sound_run_line(&mut self) -> Vec<u8> {
         let events = self.event_list(3, false);
         match self.random.below(3) {
@@ -330,7 +332,7 @@ impl Generator {
         self.damage_line(line);
     }
 
-    /// A log, events or bytes at or over what a command may have.
+    /// A log, events or bytes at or beyond the limits of a command.
     pub fn run_beyond_limits(&mut self) {
         let script = self.small_script();
         let image = image_of(&script);
@@ -357,7 +359,7 @@ impl Generator {
                 long.truncate(length);
                 self.run_line(command, 50, 4, &events, &long)
             }
-            // Bytes of events that are no multiple of four.
+            // An event list whose length is not a multiple of four bytes.
             _ => {
                 let events = self
                     .random
@@ -370,7 +372,7 @@ impl Generator {
     }
 }
 
-/// The image of a script that the compiler accepts; otherwise nothing.
+/// The image of a script, or nothing if the compiler refuses it.
 pub fn image_of(script: &[u8]) -> Vec<u8> {
     let mut image = vec![0; WORD_LIMIT * RECORD_BYTES];
     let words = compiler::compile(script, &mut image).unwrap_or(0);

@@ -1,4 +1,4 @@
-//! Random scripts for the compile command: sound ones, ones at the limits, and damaged ones.
+//! Random scripts for the compile command: valid ones, ones at the limits, and damaged ones.
 
 use std::io::{self, Write};
 
@@ -14,7 +14,7 @@ const PORTS: [u16; 12] = [
 ];
 const COUNTS: [u32; 10] = [0, 0, 1, 1, 2, 3, 255, 256, 65_534, 65_535];
 
-/// Writes exactly so many compile commands.
+/// Writes exactly this many compile commands.
 pub fn write_scripts(seed: u64, count: u64, output: &mut impl Write) -> io::Result<()> {
     let mut random = Random::new(seed);
     for _ in 0..count {
@@ -33,7 +33,7 @@ pub fn any_command(random: &mut Random) -> Vec<u8> {
     Maker { random }.command(&script)
 }
 
-/// A script of any size, sound, at the limits or damaged.
+/// A script of any size: valid, at the limits, or damaged.
 pub fn any_script(random: &mut Random) -> Vec<u8> {
     let mut maker = Maker { random };
     match maker.random.below(100) {
@@ -61,7 +61,7 @@ pub fn short_command(random: &mut Random) -> Vec<u8> {
     maker.command(&script)
 }
 
-/// A compile command that is not as it should be, or nearly.
+/// A compile command that is malformed, or almost.
 fn unread_command(random: &mut Random) -> Vec<u8> {
     let mut maker = Maker { random };
     let script = maker.sound(6);
@@ -77,7 +77,7 @@ fn unread_command(random: &mut Random) -> Vec<u8> {
         6 => format!("C 30 {digits} 00"),
         7 => format!("C  {digits}"),
         _ => {
-            // Scripts about as long as scripts may be.
+            // Scripts of about the greatest length that a command may have.
             let length = COMPILE_LIMIT + maker.random.pick(&[0, 1, 8, 12]);
             let mut long = Vec::new();
             while long.len() < length {
@@ -90,13 +90,13 @@ fn unread_command(random: &mut Random) -> Vec<u8> {
     line.into_bytes()
 }
 
-/// How a ladder's next block lies in the block before it.
+/// How the next block is nested in the block before it.
 #[derive(Clone, Copy)]
 enum Rung {
     Repeat,
     /// An if without else.
     If,
-    /// An if with an else behind the inner blocks.
+    /// An if with an else after the inner blocks.
     Then,
     /// An if with an else before the inner blocks.
     Else,
@@ -125,7 +125,7 @@ impl Maker<'_> {
         }
     }
 
-    /// A sound record of this kind.
+    /// A valid record of this kind.
     fn record(&mut self, kind: u8) -> Record {
         let mut record = Record::of_script(kind);
         if matches!(kind, WRITE | READ | IF) {
@@ -140,15 +140,16 @@ impl Maker<'_> {
         record
     }
 
-    /// A sound record that neither opens nor ends anything.
+    /// A valid write, read or delay.
     fn plain(&mut self) -> Record {
         let kind = self.random.pick(&[WRITE, WRITE, READ, DELAY]);
         self.record(kind)
     }
 
-    // Sound scripts.
+    // Valid scripts.
 
-    /// Adds exactly so many records, all blocks closed, inside so many blocks and repeats.
+    /// Adds exactly this many records, with all blocks closed, inside this many open blocks and
+    /// repeats.
     fn body(
         &mut self,
         script: &mut Vec<Record>,
@@ -186,7 +187,7 @@ impl Maker<'_> {
         }
     }
 
-    /// How many of the records left go into the block that is opened.
+    /// How many of the remaining records go into the block that is opened.
     fn share(&mut self, most: usize) -> usize {
         match self.random.below(3) {
             0 => most,
@@ -210,7 +211,7 @@ impl Maker<'_> {
         encode(&self.sound_records(most))
     }
 
-    /// Nothing, or a few plain records.
+    /// No records, or a few writes, reads and delays.
     fn filler(&mut self, script: &mut Vec<Record>, filled: bool) {
         if filled {
             for _ in 0..self.random.below(3) {
@@ -219,7 +220,7 @@ impl Maker<'_> {
         }
     }
 
-    /// Blocks, each inside the one before it.
+    /// Nested blocks.
     fn ladder(&mut self, rungs: &[Rung]) -> Vec<Record> {
         let filled = self.random.one_in(2);
         let mut script = Vec::new();
@@ -246,7 +247,7 @@ impl Maker<'_> {
         script
     }
 
-    /// So many repeats and ifs in any order.
+    /// This many repeats and ifs in any order.
     fn rungs(&mut self, repeats: usize, ifs: usize) -> Vec<Rung> {
         let mut rungs = vec![Rung::Repeat; repeats];
         for _ in 0..ifs {
@@ -256,7 +257,7 @@ impl Maker<'_> {
         rungs
     }
 
-    /// As deep as blocks may lie, or nearly; at times two such nests behind each other.
+    /// Blocks nested to the greatest depth, or almost. Sometimes two such nests in sequence.
     fn deep_enough(&mut self) -> Vec<u8> {
         let mut script = Vec::new();
         for _ in 0..self.random.pick(&[1, 1, 2]) {
@@ -276,24 +277,24 @@ impl Maker<'_> {
         encode(&script)
     }
 
-    /// As many records or words as there may be, or nearly.
+    /// As many records or words as are allowed, or almost.
     fn just_fitting(&mut self) -> Vec<u8> {
         let script = match self.random.below(7) {
             0 => vec![self.record(WRITE); RECORD_LIMIT - 1],
             1 => self.whole(RECORD_LIMIT - 1, false),
             2 => self.whole(RECORD_LIMIT - 1, true),
-            // Almost surely with the end of an if.
+            // Almost certainly with the end of an if.
             3 => self.whole(RECORD_LIMIT, true),
             4 => {
                 let fewer = self.random.below(24) as usize;
                 self.whole(RECORD_LIMIT - fewer, true)
             }
-            // Nothing but ifs.
+            // Only ifs.
             5 => {
                 let pair = [self.record(IF), self.record(END)];
                 pair.repeat(RECORD_LIMIT / 2)
             }
-            // One end of an if, so there is one word less than records, and the halt.
+            // One end of an if: one word less than records, and the halt.
             _ => {
                 let before = self.random.below(RECORD_LIMIT as u32 - 2) as usize;
                 let inside = self.random.below((RECORD_LIMIT - 2 - before) as u32) as usize;
@@ -311,7 +312,7 @@ impl Maker<'_> {
         encode(&script)
     }
 
-    // Refused scripts, most of them.
+    // Scripts that are mostly refused.
 
     fn too_many_words(&mut self) -> Vec<u8> {
         let mut script = match self.random.below(3) {
@@ -353,7 +354,7 @@ impl Maker<'_> {
         let mut script = self.sound_records(most_before);
         script.extend(self.ladder(&rungs));
         match self.random.below(6) {
-            // A fault of a lower number, perhaps in the same record.
+            // A fault with a lower number, sometimes in the same record.
             0 => {
                 let place = self.place(&script);
                 self.damage_field(&mut script[place]);
@@ -412,7 +413,7 @@ impl Maker<'_> {
                 let above = match (kind, record.width) {
                     (WRITE | IF, 1) => 8,
                     (WRITE | IF, 2) | (DELAY | REPEAT, _) => 16,
-                    // Nothing is too wide for four bytes; make it narrow.
+                    // Every value fits four bytes, so make the width smaller.
                     (WRITE | IF, _) => {
                         record.width = 2;
                         16
@@ -427,7 +428,8 @@ impl Maker<'_> {
             }
             7 => record.target = 1 << self.random.below(16),
             _ if matches!(kind, WRITE | READ | IF) => {
-                // The port may be any; so may some other bit, at times.
+                // Every port is valid, so change any bit of the record; some bits do not matter
+                // either.
                 let mut bytes = record.encode();
                 bytes[self.random.below(RECORD_BYTES as u32) as usize] ^= 1 << self.random.below(8);
                 *record = Record::decode(&bytes);
@@ -474,14 +476,14 @@ impl Maker<'_> {
                 let record = self.record(kind);
                 script.insert(place, record);
             }
-            // An else may find itself in a repeat.
+            // An else that may now be in a repeat.
             8 => {
                 if let Some(found) = self.find(script, &[IF, REPEAT]) {
                     let kind = IF + REPEAT - script[found].kind;
                     script[found] = self.record(kind);
                 }
             }
-            // The end of the script, too early.
+            // The script ends too early.
             9 => {
                 if let Some(found) = self.find(script, &[REPEAT, IF, ELSE]) {
                     script.truncate(found + 1);
@@ -501,11 +503,11 @@ impl Maker<'_> {
         }
     }
 
-    /// No whole number of records, or too many of them.
+    /// Not a whole number of records, or too many records.
     fn damaged_length(&mut self) -> Vec<u8> {
         let mut bytes = self.sound(20);
         match self.random.below(8) {
-            // A mark, cut off.
+            // A mark that is cut off.
             0 => bytes.extend_from_slice(&SCRIPT_MARK[..1]),
             1 => bytes.extend_from_slice(&SCRIPT_MARK),
             2 => {
@@ -518,14 +520,14 @@ impl Maker<'_> {
                 bytes.extend_from_slice(&self.plain().encode());
                 bytes.truncate(bytes.len() - less);
             }
-            // A byte too many at the front, so that every mark is out of place.
+            // One byte too many at the start, so that every mark is at a wrong place.
             4 => bytes.insert(0, self.random.pick(&[0, SCRIPT_MARK[0]])),
             5 => bytes = encode(&self.whole(RECORD_LIMIT + 1, true)),
             6 => {
                 let more = self.random.below(300) as usize;
                 bytes = encode(&self.whole(RECORD_LIMIT + 1 + more, true));
             }
-            // A fault of a higher number stands before it.
+            // A fault with a higher number comes before it.
             _ => {
                 bytes.insert(0, 0);
                 bytes.truncate(bytes.len() / RECORD_BYTES * RECORD_BYTES + 5);
@@ -534,12 +536,12 @@ impl Maker<'_> {
         bytes
     }
 
-    /// A place of a script that is not empty.
+    /// A place in a script that is not empty.
     fn place(&mut self, script: &[Record]) -> usize {
         self.random.below(script.len() as u32) as usize
     }
 
-    /// The place of some record of these kinds.
+    /// The place of a random record of these kinds.
     fn find(&mut self, script: &[Record], kinds: &[u8]) -> Option<usize> {
         let places: Vec<usize> = (0..script.len())
             .filter(|place| kinds.contains(&script[*place].kind))
@@ -549,7 +551,7 @@ impl Maker<'_> {
 
     // Lines.
 
-    /// The command with a buffer that mostly suffices.
+    /// The command, with a buffer that is mostly large enough.
     fn command(&mut self, script: &[u8]) -> Vec<u8> {
         let length = self.buffer_length(script);
         let mut line = format!("C {}", self.random.writing(length as u32));

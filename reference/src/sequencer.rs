@@ -1,4 +1,4 @@
-//! The sequencer: words, and runs of them (document 01, "Scripts and images").
+//! The sequencer: the words of an image, and how it runs them.
 
 use crate::compiler::{
     Record, DELAY, ENTER, HALT, JUMP, LOOP_END, READ, RECORD_BYTES, TEST, WORD_LIMIT, WORD_MARK,
@@ -12,7 +12,7 @@ pub const EVENT_LIMIT: usize = 4096;
 /// The largest value of a counter.
 pub const COUNT_LIMIT: u32 = 65_535;
 
-/// A word that is good by itself; whether the image has its target is another matter.
+/// A word without a fault of its own. Its target may still be beyond the last word of the image.
 #[derive(Clone, Copy, Debug, PartialEq, Eq)]
 enum Word {
     Write {
@@ -47,7 +47,8 @@ enum Word {
 }
 
 impl Word {
-    /// None is a bad word: a wrong mark, a kind not 1 to 8, or a width, value or unused field wrong.
+    /// Returns nothing for a bad word: a wrong mark, a kind not 1 to 8, or a wrong width, value or
+    /// unused field.
     #[inline(always)]
     fn decode(bytes: &[u8; RECORD_BYTES]) -> Option<Word> {
         let Record {
@@ -115,7 +116,7 @@ impl Word {
     }
 }
 
-/// A width of 1, 2 or 4 bytes that the value fits.
+/// The width, if it is 1, 2 or 4 bytes and the value fits it.
 #[inline]
 fn width_for(width: u8, value: u32) -> Option<Width> {
     Width::of(u32::from(width)).filter(|width| value <= width.all_ones())
@@ -127,7 +128,7 @@ pub struct Sequencer {
     pub place: u32,
     /// How many of the counters are in use.
     pub used: u32,
-    /// The bottom one first.
+    /// The counter of the outermost loop first.
     pub counters: [u32; COUNTER_LIMIT],
 }
 
@@ -149,11 +150,12 @@ impl Sequencer {
 
 #[derive(Clone, Copy, Debug, PartialEq, Eq)]
 pub enum Refusal {
-    /// 10: image empty, no multiple of 12, or over 1,024 words.
+    /// 10: the image is empty, not a multiple of 12 bytes, or has more than 1,024 words.
     Image,
     /// 11: device or sequencer state out of range.
     StateOutOfRange,
-    /// 12: bad event, with the first's place; always 4,096 if over 4,096 events.
+    /// 12: not an event, with the place of the first one; always 4,096 if there are more than 4,096
+    /// events.
     BadEvent(usize),
 }
 
@@ -174,7 +176,7 @@ impl Refusal {
     }
 }
 
-/// How a run ends that is not refused.
+/// How a run that is not refused ends.
 #[derive(Clone, Copy, Debug, PartialEq, Eq)]
 pub enum Ending {
     Halted,
@@ -211,7 +213,7 @@ pub struct Ended {
     pub values_logged: usize,
 }
 
-/// What a run is lent beside device and sequencer.
+/// What a run gets from its caller besides the device and the sequencer.
 pub struct Lent<'a> {
     pub image: &'a [u8],
     pub events: &'a [u32],
@@ -219,12 +221,12 @@ pub struct Lent<'a> {
     pub log: &'a mut [u32],
 }
 
-/// Looks on at each write, read and test of a run.
+/// Observes each write, read and test of a run.
 pub trait Observer {
     fn access(&mut self, access: impl FnOnce() -> Access);
 }
 
-/// The plain run: nobody looks, so that nothing is put together to be looked at.
+/// A run without an observer: no access has to be recorded.
 impl Observer for () {
     #[inline]
     fn access(&mut self, _: impl FnOnce() -> Access) {}
@@ -253,8 +255,8 @@ pub fn judge(device: &Device, sequencer: &Sequencer, events: &[u32]) -> Result<(
     }
 }
 
-/// Runs the image on the device from where the sequencer stands. A refusal changes nothing. The log
-/// fills from its front; the rest stays as lent.
+/// Runs the image on the device, from the place of the sequencer. A refusal changes nothing. The
+/// log is filled from its start; the rest of it is not changed.
 pub fn run<O: Observer>(
     lent: Lent<'_>,
     device: &mut Device,
@@ -313,8 +315,8 @@ struct Run<'a, O> {
 }
 
 impl<O: Observer> Run<'_, O> {
-    /// Executes the word at the place, and says whether it was a halt. A faulting word does nothing
-    /// and takes no event.
+    /// Executes the word at the place and returns whether it was a halt. A word at fault does
+    /// nothing and takes no event.
     #[inline(always)]
     fn step(&mut self) -> Result<bool, Ending> {
         let word = self
@@ -344,7 +346,7 @@ impl<O: Observer> Run<'_, O> {
                 self.logged += 1;
                 next
             }
-            // An event of its own; none is taken from the list.
+            // A tick event of its own; no event is taken from the list.
             Word::Delay { ticks } => {
                 self.device.happen(Event::Ticks(ticks));
                 next
@@ -385,7 +387,7 @@ impl<O: Observer> Run<'_, O> {
                 }
             }
             Word::Jump { target } => u32::from(target),
-            // Stays on its own word.
+            // The place stays at the halt.
             Word::Halt => return Ok(true),
         };
         Ok(false)
@@ -406,7 +408,7 @@ impl<O: Observer> Run<'_, O> {
         if let Some(number) = self.events.get(self.taken) {
             self.taken += 1;
             self.device
-                .happen(Event::decode(*number).expect("refusal 12 has judged the events"));
+                .happen(Event::decode(*number).expect("the events were checked before the run"));
         }
     }
 

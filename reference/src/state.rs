@@ -1,4 +1,4 @@
-//! The state as bytes (docs/CASES.md, "The state as bytes").
+//! The saved state of a device as bytes (docs/STATE.md).
 
 use crate::acpi::{Acpi, PIN_COUNT};
 use crate::configuration::{Configuration, KEY_BYTES};
@@ -9,7 +9,8 @@ pub const STATE_BYTES: usize = 106;
 
 pub type StateBytes = [u8; STATE_BYTES];
 
-// Offsets of the fields, by the table. Two and four byte numbers stand least byte first.
+// Offsets of the fields. Numbers of two and four bytes are stored low byte first, the two bases
+// high byte first.
 pub const UNLOCKED: usize = 0;
 pub const INDEX: usize = 1;
 pub const DEVICE_NUMBER: usize = 2;
@@ -75,8 +76,8 @@ pub fn encode(device: &Device) -> StateBytes {
     bytes
 }
 
-/// None where no device can hold the state: a byte that is 0 or 1 by the table is neither, or a
-/// read-only monitor register is not at its reset. Other fields may be out of range.
+/// Returns nothing if no device can hold the state: a flag is neither 0 nor 1, or a read-only
+/// monitor register does not have its reset value. Other fields may be out of range.
 pub fn decode(bytes: &StateBytes) -> Option<Device> {
     let word = |offset: usize| u16::from_le_bytes([bytes[offset], bytes[offset + 1]]);
 

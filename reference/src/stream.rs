@@ -12,20 +12,20 @@ use crate::state::{self, StateBytes};
 /// A line may have at most this many bytes before its line feed.
 pub const LINE_LIMIT: usize = 65_536;
 
-/// The image buffer of a compile command has at most this many bytes, and its script too; so have
-/// the image and the script of a run.
+/// The image buffer and the script of a compile command have at most this many bytes each, and so
+/// have the image and the script of a run.
 pub const COMPILE_LIMIT: usize = 16_384;
 
 /// The log of a run has at most this many values.
 pub const LOG_LIMIT: usize = 2_048;
 
-/// A run is given at most this many events.
+/// A command has at most this many events.
 pub const EVENTS_READ: usize = 4_352;
 
-/// Before a run, value k of the log is this and k.
+/// Before a run, value k of the log is this plus k.
 const LOG_LENT: u32 = 0xA000_0000;
 
-/// A script's own run is given up beyond this many steps.
+/// The interpreter gives up after this many steps.
 pub const OWN_RUN_STEPS: u64 = 1 << 18;
 
 /// Before the compiler is called, byte k of the buffer is k modulo this.
@@ -54,7 +54,7 @@ enum Command {
     RunScript(Request),
 }
 
-/// What `X` and `T` ask for.
+/// The arguments of `X` and `T`.
 struct Request {
     budget: u32,
     size: usize,
@@ -64,13 +64,13 @@ struct Request {
 }
 
 impl Command {
-    /// None is `UNREAD`.
+    /// Returns nothing if the line is `UNREAD`.
     fn parse(line: &[u8]) -> Option<Command> {
         if line.len() > LINE_LIMIT {
             return None;
         }
-        // Words are separated by exactly one space, so two spaces enclose an empty word, which is
-        // no number. Words beyond the limit stay joined; no command has so many.
+        // Words are separated by exactly one space, so there is an empty word between two spaces,
+        // and it is not a number. Words beyond the limit stay joined; no command has that many.
         let words: Vec<&[u8]> = line.splitn(COMMAND_WORDS, |byte| *byte == b' ').collect();
         match words.as_slice() {
             [b"R", width, port] => Some(Command::Read {
@@ -131,7 +131,7 @@ impl Request {
     }
 }
 
-/// One to eight hex digits and nothing else.
+/// One to eight hex digits.
 fn number(word: &[u8]) -> Option<u32> {
     if word.is_empty() || word.len() > NUMBER_DIGITS {
         return None;
@@ -152,7 +152,7 @@ fn byte_string(word: &[u8]) -> Option<Vec<u8>> {
         .collect()
 }
 
-/// Only a whole state is of use.
+/// A byte string that is exactly as long as a saved state.
 fn state_bytes(word: &[u8]) -> Option<StateBytes> {
     byte_string(word)?.try_into().ok()
 }
@@ -162,7 +162,8 @@ fn buffer_length(word: &[u8]) -> Option<usize> {
     (length <= COMPILE_LIMIT).then_some(length)
 }
 
-/// An empty script is left out, so an empty word is a space behind the last word.
+/// An empty script is left out, so an empty word here means a space after the last word, which is
+/// wrong.
 fn script_bytes(word: &[u8]) -> Option<Vec<u8>> {
     let script = byte_string(word)?;
     (1..=COMPILE_LIMIT)
@@ -170,7 +171,7 @@ fn script_bytes(word: &[u8]) -> Option<Vec<u8>> {
         .then_some(script)
 }
 
-/// A byte string, or `-` in the place of an empty one.
+/// A byte string, or `-` for an empty one.
 fn bytes_or_nothing(word: &[u8]) -> Option<Vec<u8>> {
     match word {
         NOTHING => Some(Vec::new()),
@@ -179,7 +180,7 @@ fn bytes_or_nothing(word: &[u8]) -> Option<Vec<u8>> {
     }
 }
 
-/// Four bytes for each event, least byte first.
+/// Four bytes for each event, low byte first.
 fn event_numbers(bytes: &[u8]) -> Option<Vec<u32>> {
     let (events, rest) = bytes.as_chunks();
     let numbers = || events.iter().map(|event| u32::from_le_bytes(*event));
@@ -210,15 +211,15 @@ pub enum Reply {
     State(Box<StateBytes>),
     Loaded,
     Fresh,
-    /// What the compiler gave, and the whole buffer afterwards.
+    /// The result of the compiler, and the whole buffer after it.
     Compiled(Result<usize, compiler::Refusal>, Vec<u8>),
-    /// The sequencer is set.
+    /// The sequencer was set.
     Set,
     Ran(Box<Ran>),
     Unread,
 }
 
-/// A run, refused or not, and what it leaves.
+/// A run, refused or not, and the sequencer, device and log after it.
 #[derive(Clone, Debug, PartialEq, Eq)]
 pub struct Ran {
     pub outcome: Result<Ended, RunRefusal>,
@@ -227,7 +228,7 @@ pub struct Ran {
     pub log: Vec<u32>,
 }
 
-/// The compiler's or the sequencer's refusal.
+/// A refusal of the compiler or of the sequencer.
 #[derive(Clone, Copy, Debug, PartialEq, Eq)]
 pub struct RunRefusal {
     pub number: u32,
@@ -330,7 +331,7 @@ impl fmt::Display for Outputs {
     }
 }
 
-/// One device and one sequencer driven by commands, fresh at first.
+/// One device and one sequencer, fresh at first, on which the commands are carried out.
 pub struct Session {
     device: Device,
     sequencer: Sequencer,
@@ -352,7 +353,7 @@ impl Session {
         &self.sequencer
     }
 
-    /// Does what the line says and gives its answer.
+    /// Carries out the command of a line and returns the answer.
     pub fn answer(&mut self, line: &[u8]) -> Reply {
         match Command::parse(line) {
             Some(command) => self.execute(command).unwrap_or_else(Reply::Refused),
@@ -426,8 +427,8 @@ impl Session {
         Ok(ended)
     }
 
-    /// The answer is the script's own run wherever that one can give it, and otherwise that of the
-    /// sequencer, which is looked at in both cases.
+    /// The answer comes from the interpreter if it can give one, and otherwise from the sequencer.
+    /// The sequencer runs the compiled script in both cases, and the results are compared.
     fn run_script(&mut self, request: &Request, log: &mut [u32]) -> Result<Ended, RunRefusal> {
         let mut image = vec![0; WORD_LIMIT * RECORD_BYTES];
         let words = compiler::compile(&request.bytes, &mut image)?;
@@ -449,7 +450,7 @@ impl Session {
         };
         let (device, held) = (&mut by_words.device, &mut by_words.sequencer);
         let ended = match own {
-            // Not even the accesses of a run this long are kept.
+            // The run may be long, so its accesses are not recorded.
             None => sequencer::run(lent, device, held, &mut ())?,
             Some(_) => sequencer::run(lent, device, held, &mut by_words.accesses)?,
         };
@@ -470,15 +471,18 @@ impl Session {
         log[..own.values.len()].copy_from_slice(&own.values);
         self.device = own.device;
         self.sequencer = Sequencer {
-            place: u32::try_from(words - 1).expect("images are short"),
+            place: u32::try_from(words - 1).expect("an image has at most 1,024 words"),
             ..Sequencer::fresh()
         };
-        assert_eq!(ended, by_own_run, "sequencer and own run end the same way");
+        assert_eq!(
+            ended, by_own_run,
+            "sequencer and interpreter end the same way"
+        );
         assert_eq!(by_words.accesses, own.accesses, "the accesses are the same");
         assert_eq!(by_words.device, self.device, "the devices are the same");
         assert_eq!(
             by_words.sequencer, self.sequencer,
-            "the sequencer stands on its halt"
+            "the place of the sequencer is the halt"
         );
         assert_eq!(by_words.log, log, "the logs are the same");
         Ok(by_own_run)
@@ -492,7 +496,7 @@ impl Session {
     }
 }
 
-/// What the compiled script's run on the sequencer leaves.
+/// The results of the compiled script on the sequencer.
 struct ByWords {
     device: Device,
     sequencer: Sequencer,
@@ -501,17 +505,18 @@ struct ByWords {
 }
 
 impl ByWords {
-    /// Where budget or log do not suffice for the own run, the sequencer's is the front of it.
+    /// If the budget or the log is too small, checks that the run is the beginning of the
+    /// interpreter's run.
     fn check_stopped(&self, ended: &Ended, own: &OwnRun, request: &Request) {
         match ended.ending {
             Ending::BudgetSpent => assert_eq!(ended.steps, u64::from(request.budget)),
             Ending::LogFull => assert_eq!(ended.values_logged, self.log.len()),
-            other => panic!("a compiled script ends with {}", other.number()),
+            other => panic!("a compiled script ended with {}", other.number()),
         }
         assert!(ended.steps < own.steps, "the run stops before its end");
         assert!(
             own.accesses.starts_with(&self.accesses),
-            "the accesses are those of the own run, in order"
+            "the accesses are those of the interpreter, in order"
         );
         assert_eq!(
             ended.events_taken,
@@ -520,7 +525,7 @@ impl ByWords {
         );
         assert!(
             own.values.starts_with(&self.log[..ended.values_logged]),
-            "the values are those of the own run, in order"
+            "the values are those of the interpreter, in order"
         );
     }
 }
@@ -535,8 +540,8 @@ pub fn answer_all(input: &mut impl BufRead, output: &mut impl Write) -> io::Resu
     Ok(())
 }
 
-/// Reads the next line without its line feed; false at the end of the input. Of a line that is too
-/// long only so much is kept that it shows.
+/// Reads the next line without its line feed. Returns false at the end of the input. Of a line that
+/// is too long, only enough is kept to recognise it.
 fn read_line(input: &mut impl BufRead, line: &mut Vec<u8>) -> io::Result<bool> {
     line.clear();
     let mut any = false;

@@ -1,4 +1,5 @@
-//! Document 01's cases P1 to P9, the resets, and the stream of docs/CASES.md.
+//! Tests of the cases P1 to P9 (crates/correct/specs/Cases.antt), the resets, and the stream of
+//! docs/CASES.md.
 
 use crate::device::{Answer, Device, Outputs, Refusal};
 use crate::generate::{self, ANYTHING};
@@ -11,21 +12,23 @@ const VTR_RESET: u32 = 0x0600_0002;
 const VBAT_RESET: u32 = 0x0600_0003;
 
 fn read(device: &mut Device, width: u32, port: u32) -> (u32, u32) {
-    let answer = device.lone_read(width, port).expect("read is taken");
+    let answer = device
+        .lone_read(width, port)
+        .expect("the read is not refused");
     (answer.status, answer.value)
 }
 
-/// Gives the status; a write's value answer is 0.
+/// Writes and returns the status. The answer to a write has the value 0.
 fn write(device: &mut Device, width: u32, port: u32, value: u32) -> u32 {
     let answer = device
         .lone_write(width, port, value)
-        .expect("write is taken");
+        .expect("the write is not refused");
     assert_eq!(answer.value, 0);
     answer.status
 }
 
 fn event(device: &mut Device, number: u32) {
-    device.lone_event(number).expect("event is taken");
+    device.lone_event(number).expect("the event is not refused");
 }
 
 fn configure(device: &mut Device, index: u32, value: u32) -> u32 {
@@ -33,7 +36,7 @@ fn configure(device: &mut Device, index: u32, value: u32) -> u32 {
     write(device, 1, 0x2F, value)
 }
 
-/// Unlocked, device number 0Ah, both bases, activated.
+/// A device that is unlocked, with device number 0Ah, both bases set, and activated.
 fn placed(runtime_base: u32, key_base: u32) -> Device {
     let mut device = Device::fresh();
     assert_eq!(write(&mut device, 1, 0x2E, 0x55), 0);
@@ -61,7 +64,7 @@ fn monitor_read(device: &mut Device, index: u32) -> (u32, u32) {
     read(device, 1, 0x0A71)
 }
 
-/// A device with every field away from its reset.
+/// A device in which no field has its reset value.
 fn busy() -> Device {
     let mut device = placed(0x0A00, 0x0100);
     device.configuration.key_control = 0x07;
@@ -123,7 +126,7 @@ fn p3_configuration_lies_over_the_key() {
     assert_eq!(write(&mut device, 1, 0x20, 0x77), 0);
     assert_eq!(device.key[0], 0x77);
     assert_eq!(read(&mut device, 1, 0x2E), (0, 0xF2));
-    // Locked, 002Fh is still configuration's; it is not passed on.
+    // While locked, 002Fh still belongs to the configuration, and no other block answers.
     assert_eq!(write(&mut device, 1, 0x2E, 0xAA), 0);
     assert_eq!(read(&mut device, 1, 0x2F), (1, 0xFF));
     assert_eq!(write(&mut device, 1, 0x2F, 0x11), 1);
@@ -286,7 +289,7 @@ fn unlocked_55_is_an_index() {
     assert_eq!(read(&mut device, 1, 0x2E), (0, 0x55));
 }
 
-/// The accesses of document 01's traced script.
+/// The accesses of examples/unlock.txt.
 #[test]
 fn traced_script() {
     let mut device = Device::fresh();
@@ -318,9 +321,9 @@ fn bases_are_masked_in_use_only() {
     assert_eq!(write(&mut device, 1, 0x2E, 0x61), 0);
     assert_eq!(read(&mut device, 1, 0x2F), (0, 0x7F));
     assert_eq!(read(&mut device, 1, 0x0A70), (0, 0));
-    // A key base that is 0 once masked places no block.
+    // A key base that is 0 after masking places no block.
     assert_eq!(read(&mut device, 1, 0x0000), (1, 0xFF));
-    // The monitor lies over the key.
+    // The ports of the monitor overlap those of the key.
     let mut device = placed(0x0A00, 0x0A60);
     assert_eq!(write(&mut device, 1, 0x0A70, 0x6E), 0);
     assert_eq!(read(&mut device, 1, 0x0A71), (0, 0x44));
@@ -351,7 +354,7 @@ fn ticks_are_single_ticks() {
 fn pins_in_the_mapped_direction() {
     let mut device = Device::fresh();
     assert_eq!(write(&mut device, 2, 0xAC0E, 0x16), 0);
-    // Pin 6, rise, GPE0_STS bit 14.
+    // Pin 6, rising edge, GPE0_STS bit 14.
     assert_eq!(write(&mut device, 4, 0xAC14, 0x101E), 0);
     assert_eq!(read(&mut device, 4, 0xAC14), (0, 0x101E));
     event(&mut device, 0x0200_000E);
@@ -360,7 +363,7 @@ fn pins_in_the_mapped_direction() {
     event(&mut device, 0x0200_000E);
     event(&mut device, 0x0200_0006);
     assert_eq!(device.acpi.gpe0_status, 0);
-    // Fall, PM1a_STS bit 9.
+    // Falling edge, PM1a_STS bit 9.
     assert_eq!(write(&mut device, 4, 0xAC14, 0x0109), 0);
     event(&mut device, 0x0200_000E);
     assert_eq!(device.acpi.pm1_status, 0);
@@ -466,7 +469,7 @@ fn hex(bytes: &StateBytes) -> String {
 
 #[test]
 fn loads_in_and_out_of_range() {
-    // Offset, byte, and the answers to the load and to an event behind it.
+    // Offset, byte, and the answers to the load and to an event after it.
     let cases = [
         (state::UNLOCKED, 2, "REFUSED 11 0", "DONE 000"),
         (state::ACTIVATE, 2, "LOADED", "REFUSED 11 0"),
@@ -511,7 +514,7 @@ fn loads_in_and_out_of_range() {
 
 fn answers(input: &[u8]) -> String {
     let mut output = Vec::new();
-    stream::answer_all(&mut &input[..], &mut output).expect("memory takes everything");
+    stream::answer_all(&mut &input[..], &mut output).expect("writing to memory does not fail");
     String::from_utf8(output).expect("answers are text")
 }
 
@@ -582,17 +585,18 @@ fn generator_writes_the_count() {
         for count in [0, 1, 2, 400] {
             let mut commands = Vec::new();
             generate::write_commands(&ANYTHING, seed, count, &mut commands)
-                .expect("memory takes everything");
+                .expect("writing to memory does not fail");
             assert_eq!(answers(&commands).lines().count() as u64, count);
         }
     }
 }
 
-/// Statuses 1 to 5 and refusals change nothing but what settling changes.
+/// Statuses 1 to 5 change nothing except by settling, and refusals change nothing.
 #[test]
 fn only_done_accesses_change_the_state() {
     let mut commands = Vec::new();
-    generate::write_commands(&ANYTHING, 7, 20_000, &mut commands).expect("memory takes everything");
+    generate::write_commands(&ANYTHING, 7, 20_000, &mut commands)
+        .expect("writing to memory does not fail");
     let mut session = Session::new();
     for line in commands.split(|byte| *byte == b'\n') {
         let mut settled = session.device().clone();

@@ -1,11 +1,11 @@
-//! Reads a script on standard input, compiles it, runs it on a fresh device, and prints what it logged; then reads one
-//! register of the device that the run left.
-use runnelopal::{compile, run, IMAGE_BYTES};
+//! Reads a script on standard input, compiles it, runs it on a fresh device and prints the values that the run logged. Then reads one
+//! register of the device after the run.
+use runnelopal::{compile, run, IMAGE_BYTES, RECORD_BYTES};
 use std::io::Read;
 
 fn main() {
     let mut script = Vec::new();
-    std::io::stdin().read_to_end(&mut script).expect("a script on standard input");
+    std::io::stdin().read_to_end(&mut script).expect("standard input can be read");
     let mut image = vec![0; IMAGE_BYTES];
     let words = match compile(&script, &mut image) {
         Ok(words) => words,
@@ -17,7 +17,7 @@ fn main() {
     println!("{words} words");
 
     let mut log = [0; 1024];
-    let mut done = run(&image[..12 * words], &[], 100_000, &mut log).expect("a compiled image is run");
+    let mut done = run(&image[..RECORD_BYTES * words], &[], 100_000, &mut log).expect("a compiled image is not refused");
     for value in &log[..done.logged] {
         println!("logged {value:08X}");
     }

@@ -1,11 +1,79 @@
-//! Runnelopal from Rust: safe functions over the archive's exported ones. Whatever is passed, a call answers; nothing has to
-//! be checked first. Numbers are document 01's.
+//! Runnelopal from Rust: compiles board setup scripts, runs them on a model of the chip, and makes single register accesses.
+//!
+//! These are safe wrappers of the functions in `target/staticlib/librunnelopal.a`, which `rt staticlib runnelopal` builds. The functions
+//! have no preconditions: every byte and number is a valid argument, and a call that cannot do what it is asked to do returns a
+//! [`Refusal`]. `docs/CHIP.md` describes the chip, its registers, scripts, images and events.
 
-/// The bytes of a saved device.
+/// Size of a saved device in bytes. `docs/STATE.md` has the layout.
 pub const STATE_BYTES: usize = 106;
 
-/// The bytes that the image of any script fits into.
+/// An image buffer of this many bytes is large enough for every script.
 pub const IMAGE_BYTES: usize = 12_288;
+
+/// Size in bytes of a script record and of an image word.
+pub const RECORD_BYTES: usize = 12;
+
+/// The numbers of refusals.
+pub mod refusal {
+    /// The script's length is not a multiple of 12, or it has more than 1,024 records. The place is 0.
+    pub const LENGTH: u32 = 1;
+    /// Wrong mark. The place is the number of the record, as for `KIND` to `DEPTH`, counted from 0.
+    pub const MARK: u32 = 2;
+    /// The kind of the record is not 1 to 7.
+    pub const KIND: u32 = 3;
+    /// Wrong width, value or unused field. For an access: wrong width, port or value; the place is 0.
+    pub const FIELD: u32 = 4;
+    /// An else whose innermost open block is not an if without else, or an end with no open block.
+    pub const BALANCE: u32 = 5;
+    /// A block inside 16 open blocks, or a repeat inside 8 open repeats.
+    pub const DEPTH: u32 = 6;
+    /// A block is still open at the end. The place is the number of records, as for `WORDS` and `BUFFER`.
+    pub const OPEN: u32 = 7;
+    /// The image would have more than 1,024 words.
+    pub const WORDS: u32 = 8;
+    /// The image buffer is too short.
+    pub const BUFFER: u32 = 9;
+    /// The image is empty, not a multiple of 12 bytes, or has more than 1,024 words. The place is 0.
+    pub const IMAGE: u32 = 10;
+    /// The saved device is out of range. The place is 0.
+    pub const STATE: u32 = 11;
+    /// Not an event. In a run the place is its index, or 4096 if there are more than 4,096 events.
+    pub const EVENT: u32 = 12;
+}
+
+/// How a run can end. 20 to 24 are faults: the word at fault is not executed, and takes no event.
+pub mod ending {
+    /// Executed a halt.
+    pub const HALTED: u32 = 0;
+    /// Executed as many words as the budget allows, without a halt.
+    pub const BUDGET_SPENT: u32 = 19;
+    /// The word has a wrong mark, kind, width, value or unused field.
+    pub const BAD_WORD: u32 = 20;
+    /// The place of the sequencer, or the target of the word, is after the last word.
+    pub const BEYOND_LAST_WORD: u32 = 21;
+    /// The word enters a loop, and eight loops are open.
+    pub const TOO_MANY_COUNTERS: u32 = 22;
+    /// The word ends a loop, and no loop is open.
+    pub const NO_COUNTER: u32 = 23;
+    /// The word is a read, and the log has no room for its value.
+    pub const LOG_FULL: u32 = 24;
+}
+
+/// The status of an access. With a status other than `DONE` the access itself changes nothing.
+pub mod status {
+    /// Done.
+    pub const DONE: u64 = 0;
+    /// No block claims the port, or the block does not take the access. A read gives all ones of its width.
+    pub const UNCLAIMED: u64 = 1;
+    /// Blocked by a lock, or a write to a read-only register. A read gives 0, as for `UNDEFINED` and `ABSENT`.
+    pub const BLOCKED: u64 = 2;
+    /// Setup data under an undefined index.
+    pub const UNDEFINED: u64 = 3;
+    /// The index does not name a register.
+    pub const ABSENT: u64 = 4;
+    /// The register does not accept the value; the write is ignored.
+    pub const IGNORED: u64 = 5;
+}
 
 extern "C" {
     fn runnelopal_compile(
@@ -49,7 +117,8 @@ extern "C" {
     ) -> u32;
 }
 
-/// A refusal: its number and its place. It has changed nothing.
+/// Why a call was refused: a number of the module [`refusal`], and the place of the fault. A refused call changes neither the image, the
+/// log nor the device.
 #[derive(Clone, Copy, Debug, PartialEq, Eq)]
 pub struct Refusal {
     pub number: u32,
@@ -64,10 +133,12 @@ fn refused<T>(number: u32, place: u64, done: T) -> Result<T, Refusal> {
     }
 }
 
-/// Compiles a script into a buffer and gives the number of words written.
+/// Compiles a script into the image buffer and returns the number of words. The image is [`RECORD_BYTES`] bytes for each word; the rest of
+/// the buffer is not changed. Refusals: 1 to 9.
 pub fn compile(script: &[u8], image: &mut [u8]) -> Result<usize, Refusal> {
     let mut answer = [0u64; 2];
-    // SAFETY: each pair is a slice that lives through the call, and the two that are written are borrowed mutably.
+    // SAFETY: each pointer and length is that of a slice that outlives the call, so it is not null. The slices that are written are borrowed
+    // mutably, so they overlap no other slice.
     let number = unsafe {
         runnelopal_compile(
             script.as_ptr(),
@@ -81,18 +152,25 @@ pub fn compile(script: &[u8], image: &mut [u8]) -> Result<usize, Refusal> {
     refused(number, answer[0], answer[1] as usize)
 }
 
-/// How a run ended: 0 halted, 19 budget spent, 20 to 24 a fault.
+/// The result of a run that was not refused.
 #[derive(Clone, Debug, PartialEq, Eq)]
 pub struct Run {
+    /// How the run ended: a number of the module [`ending`].
     pub ending: u32,
+    /// Words executed, the halt included.
     pub steps: u64,
+    /// Events applied.
     pub taken: usize,
+    /// Values logged.
     pub logged: usize,
+    /// The index of the next word, or of the halt.
     pub place: u64,
+    /// The device after the run.
     pub device: Device,
 }
 
-/// Runs an image on a fresh device from a fresh sequencer.
+/// Runs an image on a fresh device, from its first word. `events` are the outside events; the next one is applied before each register
+/// access. `budget` is the greatest number of words to execute. Each read appends its value to `log`. Refusals: 10 and 12.
 pub fn run(image: &[u8], events: &[u32], budget: u32, log: &mut [u32]) -> Result<Run, Refusal> {
     let mut answer = [0u64; 5];
     let mut device = Device::fresh();
@@ -112,7 +190,7 @@ pub fn run(image: &[u8], events: &[u32], budget: u32, log: &mut [u32]) -> Result
             answer.len(),
         )
     };
-    let number = if (10..=12).contains(&outcome) { outcome } else { 0 };
+    let number = if (refusal::IMAGE..=refusal::EVENT).contains(&outcome) { outcome } else { 0 };
     refused(
         number,
         answer[0],
@@ -127,7 +205,7 @@ pub fn run(image: &[u8], events: &[u32], budget: u32, log: &mut [u32]) -> Result
     )
 }
 
-/// SCI, SMI and the monitor interrupt.
+/// The outputs of the chip: SCI, SMI and the monitor interrupt.
 #[derive(Clone, Copy, Debug, PartialEq, Eq)]
 pub struct Outputs {
     pub sci: bool,
@@ -135,17 +213,22 @@ pub struct Outputs {
     pub monitor: bool,
 }
 
-/// What an access is answered.
+/// The answer to an access.
 #[derive(Clone, Copy, Debug, PartialEq, Eq)]
 pub struct Answer {
+    /// A number of the module [`status`].
     pub status: u64,
+    /// The value read; 0 for a write.
     pub value: u32,
+    /// The outputs after the access.
     pub outputs: Outputs,
 }
 
-/// A device as its saved state.
+/// A device, kept as its saved bytes.
 #[derive(Clone, Debug, PartialEq, Eq)]
 pub struct Device {
+    /// The saved bytes, in the layout of `docs/STATE.md`. Any bytes may be stored here; if they are out of range, each access and event is
+    /// refused with 11.
     pub state: [u8; STATE_BYTES],
 }
 
@@ -158,6 +241,7 @@ fn outputs(numbers: &[u64]) -> Outputs {
 }
 
 impl Device {
+    /// The device in its fresh state.
     pub fn fresh() -> Self {
         let mut state = [0; STATE_BYTES];
         // SAFETY: as in `compile`.
@@ -188,14 +272,18 @@ impl Device {
         refused(number, answer[0], done)
     }
 
+    /// Reads `width` bytes (1, 2 or 4) at a port from 0 to FFFFh. Refusals: 11 and 4.
     pub fn read(&mut self, width: u32, port: u32) -> Result<Answer, Refusal> {
         self.access(false, width, port, 0)
     }
 
+    /// Writes `width` bytes (1, 2 or 4) at a port from 0 to FFFFh. Refusals: 11 and 4.
     pub fn write(&mut self, width: u32, port: u32, value: u32) -> Result<Answer, Refusal> {
         self.access(true, width, port, value)
     }
 
+    /// Applies an outside event and returns the outputs after it. The top byte of `number` is the kind of the event, the rest its operand.
+    /// Refusals: 11 and 12.
     pub fn event(&mut self, number: u32) -> Result<Outputs, Refusal> {
         let mut answer = [0u64; 4];
         // SAFETY: as in `compile`.
