@@ -7,6 +7,10 @@ use Rattle.little_endian.specs.Bytes.{flagAt, flagByte, fourAt, fourBytes, isFl
 use Rattle.mask.specs.Every.{allBelow}
 use Rattle.acpi.specs.declared.Acpi.{Acpi}
 
+-- how many bytes
+abbrev pub acpiSize : ℕ
+acpiSize = 45
+
 -- ---- the block as bytes
 -- so many maps, and so many levels, from a pin on
 abbrev pub mapBytes : ℕ → ℕ → List ℕ → List ℕ

@@ -8,6 +8,10 @@ use Rattle.config.specs.Base.{high, low}
 use Rattle.config.specs.Fields.{config}
 use Rattle.config.specs.declared.Config.{Config}
 
+-- how many bytes
+abbrev pub configSize : ℕ
+configSize = 9
+
 abbrev pub configBytes : Config → List ℕ
 configBytes g =
     flagByte (g .unlocked) ∷ g .index ∷ g .number ∷ g .activate ∷ high (g .«runtime_base») ∷ low (g .«runtime_base»)

@@ -8,6 +8,10 @@ use Rattle.monitor.specs.Monitor.{monitor, registerOf}
 use Rattle.monitor.specs.Table.{allOf, listedIndices, placeIn, readOnlyIndices, resetOf, storedIndices}
 use Rattle.monitor.specs.declared.Monitor.{Monitor}
 
+-- how many bytes
+abbrev pub monitorSize : ℕ
+monitorSize = 20
+
 abbrev pub monitorBytes : Monitor → List ℕ
 monitorBytes m = m .index ∷ map (registerOf m) listedIndices
 

@@ -8,15 +8,15 @@ use lib.ListN.{drop, getD, length, length-append, length-drop}
 use native.Mathlib.Omega.{arith}
 use borrow.Author.Tests.{eq-eqb}
 use Rattle.acpi.proofs.Saved as of-acpi
-use Rattle.acpi.specs.Saved.{acpiBytes, acpiFrom, acpiSaved}
+use Rattle.acpi.specs.Saved.{acpiBytes, acpiFrom, acpiSaved, acpiSize}
 use Rattle.config.proofs.Saved as of-config
-use Rattle.config.specs.Saved.{configBytes, configFrom, configSaved}
+use Rattle.config.specs.Saved.{configBytes, configFrom, configSaved, configSize}
 use Rattle.device.specs.declared.Device.{Device}
 use Rattle.key.proofs.Saved as of-key
-use Rattle.key.specs.Saved.{keyBytes, keyFrom}
+use Rattle.key.specs.Saved.{keyBytes, keyFrom, keySize}
 use Rattle.lists.proofs.Tests.{all-hold, all-held}
 use Rattle.monitor.proofs.Saved as of-monitor
-use Rattle.monitor.specs.Saved.{monitorBytes, monitorFrom, monitorSaved}
+use Rattle.monitor.specs.Saved.{monitorBytes, monitorFrom, monitorSaved, monitorSize}
 use Rattle.state.proofs.Parts.{cut, front-part, later-part, part-bytes, part-length, whole-part}
 use Rattle.state.specs.State.{
   acpiStart,
@@ -51,30 +51,30 @@ abbrev afterConfig : Device → List ℕ
 afterConfig d = keyBytes (d .key) ++ afterKey d
 
 module _ (d : Device) where
-  config-part : part 0 9 (stateBytes d) ≡ configBytes (d .config)
+  config-part : part 0 configSize (stateBytes d) ≡ configBytes (d .config)
   unfolding stateBytes
-  config-part = front-part (configBytes (d .config)) (afterConfig d) 9 (of-config.bytes-length (d .config))
+  config-part = front-part (configBytes (d .config)) (afterConfig d) configSize (of-config.bytes-length (d .config))
 
-  key-part : part keyStart 32 (stateBytes d) ≡ keyBytes (d .key)
+  key-part : part keyStart keySize (stateBytes d) ≡ keyBytes (d .key)
   unfolding stateBytes
   key-part =
-      later-part (configBytes (d .config)) (afterConfig d) 9 0 32 (of-config.bytes-length (d .config))
-      ∙ front-part (keyBytes (d .key)) (afterKey d) 32 (of-key.bytes-length (d .key))
+      later-part (configBytes (d .config)) (afterConfig d) configSize 0 keySize (of-config.bytes-length (d .config))
+      ∙ front-part (keyBytes (d .key)) (afterKey d) keySize (of-key.bytes-length (d .key))
 
-  monitor-part : part monitorStart 20 (stateBytes d) ≡ monitorBytes (d .monitor)
+  monitor-part : part monitorStart monitorSize (stateBytes d) ≡ monitorBytes (d .monitor)
   unfolding stateBytes
   monitor-part =
-      later-part (configBytes (d .config)) (afterConfig d) 9 32 20 (of-config.bytes-length (d .config))
-      ∙ later-part (keyBytes (d .key)) (afterKey d) 32 0 20 (of-key.bytes-length (d .key))
-      ∙ front-part (monitorBytes (d .monitor)) (afterMonitor d) 20 (of-monitor.bytes-length (d .monitor))
+      later-part (configBytes (d .config)) (afterConfig d) configSize keySize monitorSize (of-config.bytes-length (d .config))
+      ∙ later-part (keyBytes (d .key)) (afterKey d) keySize 0 monitorSize (of-key.bytes-length (d .key))
+      ∙ front-part (monitorBytes (d .monitor)) (afterMonitor d) monitorSize (of-monitor.bytes-length (d .monitor))
 
-  acpi-part : part acpiStart 45 (stateBytes d) ≡ acpiBytes (d .acpi)
+  acpi-part : part acpiStart acpiSize (stateBytes d) ≡ acpiBytes (d .acpi)
   unfolding stateBytes
   acpi-part =
-      later-part (configBytes (d .config)) (afterConfig d) 9 52 45 (of-config.bytes-length (d .config))
-      ∙ later-part (keyBytes (d .key)) (afterKey d) 32 20 45 (of-key.bytes-length (d .key))
-      ∙ later-part (monitorBytes (d .monitor)) (afterMonitor d) 20 0 45 (of-monitor.bytes-length (d .monitor))
-      ∙ whole-part (acpiBytes (d .acpi)) 45 (of-acpi.bytes-length (d .acpi))
+      later-part (configBytes (d .config)) (afterConfig d) configSize (keySize + monitorSize) acpiSize (of-config.bytes-length (d .config))
+      ∙ later-part (keyBytes (d .key)) (afterKey d) keySize monitorSize acpiSize (of-key.bytes-length (d .key))
+      ∙ later-part (monitorBytes (d .monitor)) (afterMonitor d) monitorSize 0 acpiSize (of-monitor.bytes-length (d .monitor))
+      ∙ whole-part (acpiBytes (d .acpi)) acpiSize (of-acpi.bytes-length (d .acpi))
 
   pub state-length : length (stateBytes d) ≡ stateSize
   unfolding stateBytes
@@ -121,19 +121,19 @@ four-equal : {a b c d a′ b′ c′ d′ : List ℕ} → a ≡ a′ → b ≡ b
 four-equal p q r s = rw (p, q, r, s)
 
 module _ (bs : List ℕ) (n : length bs ≡ stateSize) where
-  joined : part 0 9 bs ++ (part keyStart 32 bs ++ (part monitorStart 20 bs ++ part acpiStart 45 bs)) ≡ bs
+  joined : part 0 configSize bs ++ (part keyStart keySize bs ++ (part monitorStart monitorSize bs ++ part acpiStart acpiSize bs)) ≡ bs
   joined =
-      let size : length (drop acpiStart bs) ≡ 45 = length-drop acpiStart bs ∙ omega (arith, n) in
-      let last : part acpiStart 45 bs ≡ drop acpiStart bs = whole-part (drop acpiStart bs) 45 size in
-      rw (last, cut monitorStart 20 bs, cut keyStart 32 bs, cut 0 9 bs)
+      let size : length (drop acpiStart bs) ≡ acpiSize = length-drop acpiStart bs ∙ omega (arith, n) in
+      let last : part acpiStart acpiSize bs ≡ drop acpiStart bs = whole-part (drop acpiStart bs) acpiSize size in
+      rw (last, cut monitorStart monitorSize bs, cut keyStart keySize bs, cut 0 configSize bs)
 
   pub bytes-back : ((k : ℕ) → getD bs k 0 < 256) → isSaved bs ≡ true → stateBytes (deviceFrom bs) ≡ bs
   unfolding stateBytes
   bytes-back byte saved =
       let s = all-held (savedTests bs) saved in
       four-equal
-      (of-config.save-back (part 0 9 bs) (part-length 0 9 bs (omega (arith, n))) (part-bytes 0 9 bs byte) (s .0))
-      (of-key.save-back (part keyStart 32 bs) (part-length keyStart 32 bs (omega (arith, n))))
-      (of-monitor.save-back (part monitorStart 20 bs) (part-length monitorStart 20 bs (omega (arith, n))) (part-bytes monitorStart 20 bs byte) (s .1 .0))
-      (of-acpi.save-back (part acpiStart 45 bs) (part-length acpiStart 45 bs (omega (arith, n))) (part-bytes acpiStart 45 bs byte) (s .1 .1 .0))
+      (of-config.save-back (part 0 configSize bs) (part-length 0 configSize bs (omega (arith, n))) (part-bytes 0 configSize bs byte) (s .0))
+      (of-key.save-back (part keyStart keySize bs) (part-length keyStart keySize bs (omega (arith, n))))
+      (of-monitor.save-back (part monitorStart monitorSize bs) (part-length monitorStart monitorSize bs (omega (arith, n))) (part-bytes monitorStart monitorSize bs byte) (s .1 .0))
+      (of-acpi.save-back (part acpiStart acpiSize bs) (part-length acpiStart acpiSize bs (omega (arith, n))) (part-bytes acpiStart acpiSize bs byte) (s .1 .1 .0))
       ∙ joined

@@ -5,27 +5,27 @@ use mathlib.Core.Bool.{Bool, false, cond}
 use mathlib.Core.List.{List, [], _∷_, _++_}
 use lib.Dec.{eqb}
 use lib.ListN.{drop, length, take}
-use Rattle.acpi.specs.Saved.{acpiBytes, acpiFrom, acpiSaved}
-use Rattle.config.specs.Saved.{configBytes, configFrom, configSaved}
+use Rattle.acpi.specs.Saved.{acpiBytes, acpiFrom, acpiSaved, acpiSize}
+use Rattle.config.specs.Saved.{configBytes, configFrom, configSaved, configSize}
 use Rattle.device.specs.Device.{freshDevice}
 use Rattle.device.specs.declared.Device.{Device}
-use Rattle.key.specs.Saved.{keyBytes, keyFrom}
+use Rattle.key.specs.Saved.{keyBytes, keyFrom, keySize}
 use Rattle.lists.specs.Tests.{allHold}
-use Rattle.monitor.specs.Saved.{monitorBytes, monitorFrom, monitorSaved}
+use Rattle.monitor.specs.Saved.{monitorBytes, monitorFrom, monitorSaved, monitorSize}
 use Rattle.state.specs.declared.LoadResult.{LoadResult}
 
 -- ---- where each block's bytes start, and how many there are in all
 abbrev pub keyStart : ℕ
-keyStart = 9
+keyStart = configSize
 
 abbrev pub monitorStart : ℕ
-monitorStart = keyStart + 32
+monitorStart = keyStart + keySize
 
 abbrev pub acpiStart : ℕ
-acpiStart = monitorStart + 20
+acpiStart = monitorStart + monitorSize
 
 abbrev pub stateSize : ℕ
-stateSize = acpiStart + 45
+stateSize = acpiStart + acpiSize
 
 -- ---- a device as bytes
 unfoldable pub stateBytes : Device → List ℕ
@@ -38,16 +38,16 @@ part start size bytes = take size (drop start bytes)
 
 abbrev pub deviceFrom : List ℕ → Device
 deviceFrom bytes = record {
-  config = configFrom (part 0 9 bytes);
-  acpi = acpiFrom (part acpiStart 45 bytes);
-  monitor = monitorFrom (part monitorStart 20 bytes);
-  key = keyFrom (part keyStart 32 bytes);
+  config = configFrom (part 0 configSize bytes);
+  acpi = acpiFrom (part acpiStart acpiSize bytes);
+  monitor = monitorFrom (part monitorStart monitorSize bytes);
+  key = keyFrom (part keyStart keySize bytes);
 }
 
 -- can a device hold these bytes? Any bytes are key bytes
 abbrev pub savedTests : List ℕ → List Bool
 savedTests bytes =
-    configSaved (part 0 9 bytes) ∷ monitorSaved (part monitorStart 20 bytes) ∷ acpiSaved (part acpiStart 45 bytes) ∷ []
+    configSaved (part 0 configSize bytes) ∷ monitorSaved (part monitorStart monitorSize bytes) ∷ acpiSaved (part acpiStart acpiSize bytes) ∷ []
 
 abbrev pub isSaved : List ℕ → Bool
 isSaved bytes = allHold (savedTests bytes)

@@ -4,13 +4,13 @@ use mathlib.Core.Bool.{Bool, _&&_, and-true}
 use mathlib.Core.List.{List}
 use Prim.Native.Nat.{ℕ}
 use borrow.Author.Needs.{needs}
-use Rattle.acpi.specs.Saved.{acpiFrom, acpiSaved}
+use Rattle.acpi.specs.Saved.{acpiFrom, acpiSaved, acpiSize}
 use Rattle.acpi.specs.declared.Acpi.{Acpi}
-use Rattle.config.specs.Saved.{configFrom, configSaved}
+use Rattle.config.specs.Saved.{configFrom, configSaved, configSize}
 use Rattle.config.specs.declared.Config.{Config}
-use Rattle.key.specs.Saved.{keyFrom}
+use Rattle.key.specs.Saved.{keyFrom, keySize}
 use Rattle.key.specs.declared.Key.{Key}
-use Rattle.monitor.specs.Saved.{monitorFrom, monitorSaved}
+use Rattle.monitor.specs.Saved.{monitorFrom, monitorSaved, monitorSize}
 use Rattle.monitor.specs.declared.Monitor.{Monitor}
 use Rattle.state.specs.State.{acpiStart, deviceFrom, keyStart, loadedFrom, monitorStart, part}
 use Rattle.state.specs.declared.LoadResult.{LoadResult}
@@ -19,9 +19,9 @@ use Rattle.state.proofs.read_from.Tie as tie
 
 -- the blocks, each read from its own bytes
 loads :
-    (bytes : List ℕ) (g : Config) (a : Acpi) (m : Monitor) (k : Key) (p q r : Bool) → g ≡ configFrom (part 0 9 bytes)
-    → a ≡ acpiFrom (part acpiStart 45 bytes) → m ≡ monitorFrom (part monitorStart 20 bytes) → k ≡ keyFrom (part keyStart 32 bytes)
-    → p ≡ configSaved (part 0 9 bytes) → q ≡ monitorSaved (part monitorStart 20 bytes) → r ≡ acpiSaved (part acpiStart 45 bytes)
+    (bytes : List ℕ) (g : Config) (a : Acpi) (m : Monitor) (k : Key) (p q r : Bool) → g ≡ configFrom (part 0 configSize bytes)
+    → a ≡ acpiFrom (part acpiStart acpiSize bytes) → m ≡ monitorFrom (part monitorStart monitorSize bytes) → k ≡ keyFrom (part keyStart keySize bytes)
+    → p ≡ configSaved (part 0 configSize bytes) → q ≡ monitorSaved (part monitorStart monitorSize bytes) → r ≡ acpiSaved (part acpiStart acpiSize bytes)
     → _≡_ {A = LoadResult} (record { valid = p && (q && r); device = record { config = g; acpi = a; monitor = m; key = k } })
     (loadedFrom bytes)
 unfolding loadedFrom
@@ -29,10 +29,10 @@ loads bytes g a m k p q r eg ea em ek ep eq er =
     rw (eg, ea, em, ek, ep, eq, er)
     (ap {B = LoadResult}
     (λ (b : Bool). record {
-      valid = configSaved (part 0 9 bytes) && (monitorSaved (part monitorStart 20 bytes) && b);
+      valid = configSaved (part 0 configSize bytes) && (monitorSaved (part monitorStart monitorSize bytes) && b);
       device = deviceFrom bytes;
     })
-    (sym (and-true (acpiSaved (part acpiStart 45 bytes)))))
+    (sym (and-true (acpiSaved (part acpiStart acpiSize bytes)))))
 
 sub-config : tie.Need-sub-config
 sub-config c = search needs
