@@ -32,32 +32,32 @@ extern "C" {
 #define RUNNELOPAL_RECORD 12
 
 /* Refusals. A refused call changes neither the image, the log nor the saved device. */
-#define RUNNELOPAL_REFUSED_LENGTH 1  /* the script's length is not a multiple of 12, or it has more than 1,024 records; place 0 */
-#define RUNNELOPAL_REFUSED_MARK 2    /* wrong mark; the place is the number of the record, as for 3 to 6, counted from 0 */
-#define RUNNELOPAL_REFUSED_KIND 3    /* the kind of the record is not 1 to 7 */
-#define RUNNELOPAL_REFUSED_FIELD 4   /* wrong width, value or unused field; for an access: wrong width, port or value, place 0 */
-#define RUNNELOPAL_REFUSED_BALANCE 5 /* an else whose innermost open block is not an if without else; an end with no open block */
-#define RUNNELOPAL_REFUSED_DEPTH 6   /* a block inside 16 open blocks, or a repeat inside 8 open repeats */
-#define RUNNELOPAL_REFUSED_OPEN 7    /* a block is still open at the end; the place is the number of records, as for 8 and 9 */
-#define RUNNELOPAL_REFUSED_WORDS 8   /* the image would have more than 1,024 words */
-#define RUNNELOPAL_REFUSED_BUFFER 9  /* the image buffer is too short */
-#define RUNNELOPAL_REFUSED_IMAGE 10  /* the image is empty, not a multiple of 12 bytes, or has more than 1,024 words; place 0 */
-#define RUNNELOPAL_REFUSED_STATE 11  /* the saved device is out of range, or not RUNNELOPAL_STATE bytes long; place 0 */
-#define RUNNELOPAL_REFUSED_EVENT 12  /* not an event; in a run, the place is its index, or 4096 if there are more than 4,096 events */
+#define RUNNELOPAL_BAD_LENGTH 1       /* the script's length is not a multiple of 12, or it has more than 1,024 records; place 0 */
+#define RUNNELOPAL_WRONG_MARK 2       /* wrong mark; the place is the number of the record, as for 3 to 6, counted from 0 */
+#define RUNNELOPAL_BAD_KIND 3         /* the kind of the record is not 1 to 7 */
+#define RUNNELOPAL_BAD_FIELD 4        /* wrong width, value or unused field; for an access: wrong width, port or value, place 0 */
+#define RUNNELOPAL_MISPLACED 5        /* an else whose innermost open block is not an if without else; an end with no open block */
+#define RUNNELOPAL_TOO_DEEP 6         /* a block inside 16 open blocks, or a repeat inside 8 open repeats */
+#define RUNNELOPAL_STILL_OPEN 7       /* a block is still open at the end; the place is the number of records, as for 8 and 9 */
+#define RUNNELOPAL_TOO_MANY_WORDS 8   /* the image would have more than 1,024 words */
+#define RUNNELOPAL_BUFFER_TOO_SHORT 9 /* the image buffer is too short */
+#define RUNNELOPAL_BAD_IMAGE 10       /* the image is empty, not a multiple of 12 bytes, or has more than 1,024 words; place 0 */
+#define RUNNELOPAL_BAD_STATE 11       /* the saved device is out of range, or not RUNNELOPAL_STATE bytes long; place 0 */
+#define RUNNELOPAL_BAD_EVENT 12       /* not an event; in a run, the place is its index, or 4096 if there are more than 4,096 events */
 
 /* How a run ended. 20 to 24 are faults: the word at fault is not executed, and takes no event. */
-#define RUNNELOPAL_HALTED 0              /* executed a halt */
-#define RUNNELOPAL_BUDGET_SPENT 19       /* executed as many words as the budget allows, without a halt */
-#define RUNNELOPAL_BAD_WORD 20           /* the word has a wrong mark, kind, width, value or unused field */
-#define RUNNELOPAL_BEYOND_LAST_WORD 21   /* the place of the sequencer, or the target of the word, is after the last word */
-#define RUNNELOPAL_TOO_MANY_COUNTERS 22  /* the word enters a loop, and eight loops are open */
-#define RUNNELOPAL_NO_COUNTER 23         /* the word ends a loop, and no loop is open */
-#define RUNNELOPAL_LOG_FULL 24           /* the word is a read, and the log has no room for its value */
+#define RUNNELOPAL_HALTED 0            /* executed a halt */
+#define RUNNELOPAL_BUDGET_SPENT 19     /* executed as many words as the budget allows, without a halt */
+#define RUNNELOPAL_BAD_WORD 20         /* the word has a wrong mark, kind, width, value or unused field */
+#define RUNNELOPAL_BEYOND_LAST_WORD 21 /* the place of the sequencer, or the target of the word, is after the last word */
+#define RUNNELOPAL_NINTH_COUNTER 22    /* the word enters a loop, and eight loops are open */
+#define RUNNELOPAL_NO_COUNTER 23       /* the word ends a loop, and no loop is open */
+#define RUNNELOPAL_LOG_FULL 24         /* the word is a read, and the log has no room for its value */
 
 /* Status of an access. With a status other than 0 the access itself changes nothing. */
 #define RUNNELOPAL_STATUS_DONE 0      /* done */
-#define RUNNELOPAL_STATUS_UNCLAIMED 1 /* no block claims the port, or the block does not take the access; a read gives all ones */
-#define RUNNELOPAL_STATUS_BLOCKED 2   /* blocked by a lock, or a write to a read-only register; a read gives 0, as for 3 and 4 */
+#define RUNNELOPAL_STATUS_UNCLAIMED 1 /* no block claims the port, or the block does not take the access; a read returns all ones */
+#define RUNNELOPAL_STATUS_BLOCKED 2   /* blocked by a lock, or a write to a read-only register; a read returns 0, as for 3 and 4 */
 #define RUNNELOPAL_STATUS_UNDEFINED 3 /* setup data under an undefined index */
 #define RUNNELOPAL_STATUS_ABSENT 4    /* the index does not name a register */
 #define RUNNELOPAL_STATUS_IGNORED 5   /* the register does not accept the value; the write is ignored */

@@ -16,29 +16,29 @@ pub const RECORD_BYTES: usize = 12;
 /// The numbers of refusals.
 pub mod refusal {
     /// The script's length is not a multiple of 12, or it has more than 1,024 records. The place is 0.
-    pub const LENGTH: u32 = 1;
-    /// Wrong mark. The place is the number of the record, as for `KIND` to `DEPTH`, counted from 0.
-    pub const MARK: u32 = 2;
+    pub const BAD_LENGTH: u32 = 1;
+    /// Wrong mark. The place is the number of the record, as for `BAD_KIND` to `TOO_DEEP`, counted from 0.
+    pub const WRONG_MARK: u32 = 2;
     /// The kind of the record is not 1 to 7.
-    pub const KIND: u32 = 3;
+    pub const BAD_KIND: u32 = 3;
     /// Wrong width, value or unused field. For an access: wrong width, port or value; the place is 0.
-    pub const FIELD: u32 = 4;
+    pub const BAD_FIELD: u32 = 4;
     /// An else whose innermost open block is not an if without else, or an end with no open block.
-    pub const BALANCE: u32 = 5;
+    pub const MISPLACED: u32 = 5;
     /// A block inside 16 open blocks, or a repeat inside 8 open repeats.
-    pub const DEPTH: u32 = 6;
-    /// A block is still open at the end. The place is the number of records, as for `WORDS` and `BUFFER`.
-    pub const OPEN: u32 = 7;
+    pub const TOO_DEEP: u32 = 6;
+    /// A block is still open at the end. The place is the number of records, as for `TOO_MANY_WORDS` and `BUFFER_TOO_SHORT`.
+    pub const STILL_OPEN: u32 = 7;
     /// The image would have more than 1,024 words.
-    pub const WORDS: u32 = 8;
+    pub const TOO_MANY_WORDS: u32 = 8;
     /// The image buffer is too short.
-    pub const BUFFER: u32 = 9;
+    pub const BUFFER_TOO_SHORT: u32 = 9;
     /// The image is empty, not a multiple of 12 bytes, or has more than 1,024 words. The place is 0.
-    pub const IMAGE: u32 = 10;
+    pub const BAD_IMAGE: u32 = 10;
     /// The saved device is out of range. The place is 0.
-    pub const STATE: u32 = 11;
+    pub const BAD_STATE: u32 = 11;
     /// Not an event. In a run the place is its index, or 4096 if there are more than 4,096 events.
-    pub const EVENT: u32 = 12;
+    pub const BAD_EVENT: u32 = 12;
 }
 
 /// How a run can end. 20 to 24 are faults: the word at fault is not executed, and takes no event.
@@ -52,7 +52,7 @@ pub mod ending {
     /// The place of the sequencer, or the target of the word, is after the last word.
     pub const BEYOND_LAST_WORD: u32 = 21;
     /// The word enters a loop, and eight loops are open.
-    pub const TOO_MANY_COUNTERS: u32 = 22;
+    pub const NINTH_COUNTER: u32 = 22;
     /// The word ends a loop, and no loop is open.
     pub const NO_COUNTER: u32 = 23;
     /// The word is a read, and the log has no room for its value.
@@ -190,7 +190,7 @@ pub fn run(image: &[u8], events: &[u32], budget: u32, log: &mut [u32]) -> Result
             answer.len(),
         )
     };
-    let number = if (refusal::IMAGE..=refusal::EVENT).contains(&outcome) { outcome } else { 0 };
+    let number = if (refusal::BAD_IMAGE..=refusal::BAD_EVENT).contains(&outcome) { outcome } else { 0 };
     refused(
         number,
         answer[0],
