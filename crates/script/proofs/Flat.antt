@@ -60,16 +60,16 @@ pub data Accepted : List Block → List Record → Type 0 where
   ends : {b : Block} {bs : List Block} {rs : List Record} → Accepted bs rs → Accepted (b ∷ bs) (endRecord ∷ rs)
 
 -- ---- what a record without a fault shows
-record Passed (blocks : List ℕ) (r : Record) : Type 0 where
-  marked : r .mark ≡ 0xA55A
-  least : 1 ≤ r .kind
-  most : r .kind ≤ 7
-  untargeted : r .target ≡ 0
-  fields : kindFields 5 r ≡ true
-  placed : misplaced blocks (r .kind) ≡ false
-  shallow : tooDeep blocks (r .kind) ≡ false
+pub record Passed (blocks : List ℕ) (r : Record) : Type 0 where
+  pub marked : r .mark ≡ 0xA55A
+  pub least : 1 ≤ r .kind
+  pub most : r .kind ≤ 7
+  pub untargeted : r .target ≡ 0
+  pub fields : kindFields 5 r ≡ true
+  pub placed : misplaced blocks (r .kind) ≡ false
+  pub shallow : tooDeep blocks (r .kind) ≡ false
 
-passed : (blocks : List ℕ) (r : Record) → recordFault blocks r ≡ 0 → Passed blocks r
+pub passed : (blocks : List ℕ) (r : Record) → recordFault blocks r ≡ 0 → Passed blocks r
 unfolding recordFault
 passed blocks r h =
     let none = none-from (wrongMark r ∷ badKind r ∷ badFields r ∷ misplaced blocks (r .kind) ∷ tooDeep blocks (r .kind) ∷ []) 2 (omega arith) h in
@@ -89,7 +89,7 @@ abbrev whole : (m k w p t v : ℕ) → Record
 whole m k w p t v = record { mark = m; kind = k; width = w; port = p; target = t; value = v }
 
 -- the fields of a record that uses a count, and of one that uses none
-count-fields : (w p v : ℕ) → (eqb w 0 && (eqb p 0 && leb v 65535)) ≡ true → (w ≡ 0) × (p ≡ 0) × (v ≤ 65535)
+pub count-fields : (w p v : ℕ) → (eqb w 0 && (eqb p 0 && leb v 65535)) ≡ true → (w ≡ 0) × (p ≡ 0) × (v ≤ 65535)
 count-fields w p v h =
     let a = both (eqb w 0) (eqb p 0 && leb v 65535) h in
     let b = both (eqb p 0) (leb v 65535) (a .1) in
@@ -139,7 +139,7 @@ module _ (m w p t v : ℕ) (rs : List Record) where
       rw (h .marked, h .untargeted, f .0, f .1, f .2) (ends (next bs refl))
   goes (suc (suc (suc (suc (suc (suc (suc (suc k)))))))) bs h next = absurd (omega arith)
 
-stops :
+pub stops :
     (t : Bool) (a b : Refusal) → (t ≡ false → b .number ≡ 0 → ⊥) → cond t a b .number ≡ 0
     → (t ≡ true) × (a .number ≡ 0)
 stops true a b n h = (refl, h)

@@ -1,4 +1,5 @@
 pub mod Flat
+pub mod Grammar
 pub mod Loops
 pub mod Records
 pub mod Blocks

@@ -1,4 +1,6 @@
+pub mod Faults
 pub mod Fields
+pub mod Grammar
 pub mod Nested
 pub mod Refusals
 pub mod Records
