@@ -1,5 +1,6 @@
 // The compiler: checks a script, writes its words to the front of the image buffer, and returns their number or a refusal.
-// `compile` is the only public call. It relies on `script::scan` for refusals 1 to 8. See docs/CHIP.md, "Words" and "Refusals".
+// `compile` is the only public call; `correct`, `runnelopal` and `replay` use it. It relies on `script::scan` for refusals 1
+// to 8. See docs/CHIP.md, "Words" and "Refusals".
 use record::Record;
 ghost use mathlib.Core.Path.{_≡_};
 ghost use mathlib.Core.Bool.{cond};
@@ -130,7 +131,7 @@ fn word_kind(kind: u32) -> u32
     kind
 }
 
-// Every record becomes a word, except the end of an if. Its entry in the table of targets is 0; that of a loop end never is.
+// Every record becomes a word, except the end of an if. The target of a loop end is never 0, so 0 marks the end of an if.
 fn emits_word(target: u32, kind: u32) -> bool
     ensures { λ r. ⌜ r ≡ emitsWord target kind ⌝ }
 {

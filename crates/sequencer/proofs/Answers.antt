@@ -1,4 +1,4 @@
--- The run's answer and log from what the code has at its two ends: a refusal, or the end of the words. Assumes nothing.
+-- `runAnswer` and `logAfter` at the two returns of `run`: after a refusal, and after `run_words`.
 use Prim.Native.Nat.{ℕ, _%_, _≤_}
 use mathlib.Core.Path.{_≡_, refl, ap, sym, _∙_}
 use mathlib.Core.Bool.{Bool, true, false, cond, not, _&&_}
@@ -54,7 +54,7 @@ done image d s events budget log log' r z h =
     let k = eq-eqb (runRefusal image d s events .number) 0 z in
     (rw k (h .answered), rw k (h .lines))
 
--- what a run that is not refused starts from
+-- what holds at the start of a run that is not refused
 pub record Allowed (image : List ℕ) (d : Device) (s : Sequencer) (events : List ℕ) : Type 0 where
   pub image-good : badImage image ≡ false
   pub device-good : deviceInRange d ≡ true

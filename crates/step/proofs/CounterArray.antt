@@ -1,6 +1,6 @@
--- The counters as an array: a store at the number in use is a push, one below it changes the top counter, and a 0 there
--- takes it out of use. Laid out, the counters of a sequencer in range are its array, and counters in range are a sequencer's
--- in range. Assumes nothing.
+-- The counters as an array and as a list, top first. A store at index `used` is a push, a store one below changes the top
+-- counter, and a 0 stored there pops it. A valid sequencer has valid counters in the list, and valid counters make a valid
+-- sequencer.
 use Prim.Native.Nat.{ℕ, zero, suc, _+_, _-_, _≤_, _<_}
 use mathlib.Core.Path.{_≡_, ap, sym, _∙_}
 use mathlib.Core.Bool.{true, _&&_}
@@ -36,7 +36,7 @@ counter-popped c cs h =
     let e : 8 - length cs ≡ suc (8 - suc (length cs)) = omega arith in
     counter-set c cs 0 ∙ (rw e (array-top 0 cs (replicate (8 - suc (length cs)) 0)))
 
--- ---- the counters of a sequencer in range
+-- ---- the counters of a valid sequencer
 -- the eight counters, one by one
 abbrev pub eight : List ℕ → List ℕ
 eight xs = slice 0 8 0 xs
@@ -68,7 +68,7 @@ counters-array s h =
     let z = slice-replicate 0 (8 - n) n xs (λ k l. rest-zero s h (n + k) (omega arith) (omega (arith, l, few))) in
     rw (stack-length n xs, ← z) (sym (rw e at (array-stack n (8 - n) xs)))
 
--- ---- counters in range, as a list and as the array
+-- ---- valid counters, as a list and as an array
 -- "those in use 1 to 65,535"
 abbrev pub Counts : ℕ → Type 0
 Counts c = (1 ≤ c) × (c ≤ 65535)
@@ -126,6 +126,6 @@ array-in-range place cs few h =
         let l : length cs ≤ k = omega (arith, m) in
         rw (le-ltb k (length cs) l, rest-at cs k l)
 
--- ---- a stopped state gone on with: the counters that a run hands back are those that the next one starts from
+-- ---- resuming: the counters that a run returns are those that the next run starts with
 pub counters-back : (place : ℕ) (cs : List ℕ) → countersOf (sequencerAt place cs) ≡ cs
 counters-back place cs = stack-array cs (replicate (8 - length cs) 0)

@@ -1,4 +1,5 @@
--- What each kind of word does to a state that holds a machine. Assumes nothing.
+-- For each kind of word: the change that the code makes to its state is what `execute` does to the machine that it
+-- represents.
 use Prim.Native.Nat.{ℕ, suc, _+_, _-_, _≤_, _<_}
 use mathlib.Core.Path.{_≡_, refl, ap, sym, _∙_}
 use mathlib.Core.Bool.{true, false}
@@ -35,7 +36,7 @@ use Rattle.step.specs.Sequencer.{counterArray}
 use Rattle.step.specs.Step.{Machine, execute, enter, loopEnd, machine, testWord}
 use Rattle.step.proofs.CounterArray.{counter-pushed, counter-top, counter-set, counter-popped}
 
--- ---- the kinds apart
+-- ---- `execute`, for each kind
 execute-write :
     (r : Record) (m : Machine) → r .kind ≡ 1
     → execute r m ≡ machine (suc (m .place)) (m .counters) (afterWrite (r .port) (r .width) (r .value) (m .world))
@@ -70,14 +71,14 @@ execute-jump : (r : Record) (m : Machine) → r .kind ≡ 7 → execute r m ≡ 
 unfolding execute
 execute-jump r m k = rw k
 
--- ---- an access behind the next event
+-- ---- an access after the next event
 pub access-write : (r : Record) → r .kind ≡ 1 → accessOf r ≡ writeOf (r .port) (r .width) (r .value)
 access-write r k = rw k
 
 pub access-read : (r : Record) → (r .kind ≡ 1 → ⊥) → accessOf r ≡ readOf (r .port) (r .width)
 access-read r n = rw (ne-eqb (r .kind) 1 n)
 
--- what the code has of it: the device behind the event, the answer, and the place in the list of events
+-- an access of the code: the device after the event, the answer, and the number of events taken
 pub record Accessing (x : RunState) (events : List ℕ) (a : Access) (r : AccessResult) (t : ℕ) : Type 0 where
   pub arrived : Device
   pub applied : arrived ≡ afterNextEvent (x .device) (drop (x .taken) events)
@@ -95,7 +96,7 @@ same-left :
     → Represents x events lent log m → Accessing x events a r t → drop t events ≡ eventsAfter (m .world .events)
 same-left h g = g .left ∙ ap eventsAfter (h .taken)
 
--- the state behind an access that logs nothing
+-- the state after an access that logs nothing
 abbrev pub accessedTo : RunState → AccessResult → (place taken : ℕ) → RunState
 accessedTo x r p t = record {
   device = r .device;
@@ -132,7 +133,7 @@ unfolding afterWrite
 wrote word x events r t k g = λ log lent m h.
     rw (execute-write word m k) (after-access h g (add-one _ ∙ ap suc (h .place)))
 
--- ---- a test
+-- ---- a test, which continues or jumps
 pub test-passed :
     (word : Record) (x : RunState) (events : List ℕ) (r : AccessResult) (t v : ℕ) → word .kind ≡ 6
     → Accessing x events (readOf (word .port) (word .width)) r t → r .answer .value ≡ v → hasBit (word .value) v ≡ true
@@ -167,6 +168,7 @@ readTo x r t = record {
 one-more : (values : List ℕ) (v : ℕ) → length (values ++ (v ∷ [])) ≡ suc (length values)
 one-more values v = let l = length-append values (v ∷ []) in omega (arith, l)
 
+-- storing a value at the number of values logged appends it to the filled part of the log
 logs :
     (values lent log : List ℕ) (n v : ℕ) → n ≡ length values → log ≡ values ++ drop (length values) lent → n < length log
     → set log n v ≡ (values ++ (v ∷ [])) ++ drop (length (values ++ (v ∷ []))) lent
@@ -294,7 +296,7 @@ enter-pushed word x k z l = λ events log lent m h.
     (rw (h .counters, h .used) (counter-pushed (m .counters) (word .value) few)) (add-one _ ∙ ap suc (h .used)) few
     (add-one _ ∙ ap suc (h .place)))
 
--- the counters with one at the top
+-- a stack of counters that is not empty: its top, and what is below
 pub record Topped (x : RunState) (m : Machine) : Type 0 where
   pub top : ℕ
   pub below : List ℕ
