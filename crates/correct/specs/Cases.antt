@@ -1,6 +1,6 @@
 -- The cases P1 to P11 of the rules, as tests over the definitions: P1 to P9 on the fresh device with some registers changed,
--- P10 and P11 on a script. "One statement over one list holds P1 to P11": `cases-hold` in proofs/Cases.antt. See docs/CHIP.md
--- for the registers.
+-- P10 and P11 on a script. "One statement over one list holds P1 to P11": `cases-hold` in proofs/Cases.antt.
+-- See docs/CHIP.md for the registers and the words.
 use Prim.Native.Nat.{ℕ, _+_, _*_, _^_}
 use mathlib.Core.Bool.{Bool, true, false, not, _&&_}
 use mathlib.Core.List.{List, [], _∷_, _++_}

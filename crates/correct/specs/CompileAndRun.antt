@@ -1,6 +1,6 @@
 -- Compiling and running in one call. If the log and the budget are large enough, the script's own run defines the answer;
--- otherwise the run of its image does. `wholeAnswer` and `wholeLog` define the call `compile_and_run`. See docs/CHIP.md,
--- "What a script means".
+-- otherwise the run of its image does. `wholeAnswer` and `wholeLog` define the call `compile_and_run`.
+-- See docs/CHIP.md, "What a script means".
 use Prim.Native.Nat.{ℕ, _-_}
 use mathlib.Core.Bool.{Bool, cond, _&&_}
 use mathlib.Core.List.{List, []}

@@ -1,6 +1,6 @@
--- The compiler is correct: the run of a compiled image is the script's own run, and the compiler refuses exactly what it
--- must. The theorem relates the bytes that the compiler writes to the script bytes that it got. Its proof is
--- `compiler-correct` in proofs/CompilerCorrect.antt. See docs/CHIP.md, "What a script means".
+-- The compiler is correct: the run of a compiled image is the script's own run, and the compiler refuses a script exactly when
+-- one of refusals 1 to 9 applies. The theorem is about the bytes of the script and the bytes that the compiler writes. Its proof
+-- is `compiler-correct` in proofs/CompilerCorrect.antt. See docs/CHIP.md, "What a script means".
 use Prim.Native.Nat.{ℕ, _*_, _-_, _≤_, _<_}
 use mathlib.Core.Path.{_≡_}
 use mathlib.Core.Logic.{_↔_}
@@ -27,8 +27,8 @@ Bytes bs = (k : ℕ) → getD bs k 0 < 256
 abbrev pub wordsWritten : List ℕ → List ℕ → List ℕ
 wordsWritten script buffer = take (recordSize * compileResult script buffer .words) (imageAfter script buffer)
 
--- the script's own run and the run of its image agree: `answer` is the answer of the run, `image` its end, `log` the log after it
--- and `lent` the log before it
+-- the script's own run and the run of its image agree: `answer` is the answer of the run of the image, `image` its end, `log`
+-- the log after it and `lent` the log before it
 pub record SameRun (own : Run) (answer : RunResult) (image : RunEnd) (words : ℕ) (events lent log : List ℕ) : Type 0 where
   pub halted : answer .outcome ≡ 0
   pub onLastWord : answer .sequencer .place ≡ words - 1

@@ -1,6 +1,6 @@
-// Compiles a script and runs it, in one call: `compile_and_run`. The programs `trace` and `replay` use it. Besides, this
-// crate has the top theorem, `CompilerCorrect`, and the cases P1 to P11 (specs/, proofs/). See docs/CHIP.md, "Runs" and "What
-// a script means".
+// Compiles a script and runs it, in one call: `compile_and_run`. The programs `trace` and `replay` use it.
+// Besides, this crate has the top theorem, `CompilerCorrect`, and the cases P1 to P11 (specs/, proofs/).
+// See docs/CHIP.md, "Runs" and "What a script means".
 use device::Device;
 use record::Record;
 use sequencer::RunResult;

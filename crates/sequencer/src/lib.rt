@@ -30,7 +30,7 @@ ghost use Rattle.step.specs.Word.{imageWords};
 ghost use Rattle.step.specs.Represents.{runState};
 ghost use Rattle.sequencer.specs.Ends.{Starts, EndsAs, answer};
 
-// The answer of a run. The outcome is the ending, or the number of a refusal; only a refusal has a place.
+// The answer of a run. `outcome` is the ending, or the number of a refusal. `place` is the place of a refusal, and 0 after an ending.
 pub struct RunResult {
     pub outcome: u32,
     pub place: u32,
@@ -137,7 +137,7 @@ fn start(sequencer: Sequencer) -> Position
     }
 }
 
-// A copy of the counters, which the run changes.
+// A copy of the counters. The run changes the copy.
 fn counters_of(sequencer: Sequencer) -> [u32; COUNTERS]
     requires { ⌜ sequencerInRange sequencer ≡ true ⌝ }
     ensures { λ r. ⌜ r ≡ counterArray (countersOf sequencer) ⌝ }
@@ -194,8 +194,8 @@ fn count_step(steps: u32) -> u32
     steps + 1
 }
 
-// Runs the words of an image until the run ends. The device and the answer of its last access are one local, `last`, so that each
-// access copies the device only once.
+// Runs the words of an image until the run ends. The device and the answer of its last access are one local, `last`, so that
+// each access copies the device only once.
 fn run_words(
     image: &[u8],
     device: Device,

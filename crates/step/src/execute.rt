@@ -122,7 +122,6 @@ impl Position {
         }
     }
 
-    // Executes a control word.
     pub fn execute_control(self, word: Record, counters: &mut [u32; COUNTERS]) -> ControlResult
         requires { ⌜ (self .place < 4096) × ControlReady self word ⌝ }
         ensures { λ r. ⌜ KeepsDevice word self (now (counters .entry)) r (now (counters .exit)) ⌝ }
