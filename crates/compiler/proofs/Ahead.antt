@@ -97,6 +97,7 @@ pub emit-records : (rs : List Record) → firstFault [] 0 rs .number ≡ 0
 emit-records rs h =
     ap (λ (l : List Record). emitFlat [] 0 l) (reading-flat rs h) ∙ emit-flat (bodyIn (readingOf rs)) [] 0 []
 
+-- the same for the bytes of an accepted script
 pub emit-script :
     (script : List ℕ) → scriptRefusal script .number ≡ 0 → emitFlat [] 0 (recordsOf script) ≡ wordsOf script
 unfolding wordsOf scriptBody

@@ -88,6 +88,7 @@ refuses-not script image h =
         (eqb-true (scriptRefusal script .number) 0 p, ltb-false (length image) (recordSize * wordsIn script) q)
     pick false b p q z = absurd (eqb-false (scriptRefusal script .number) 0 p z)
 
+-- the converse: any other script is accepted
 pub accepts-all : (script image : List ℕ) → scriptRefusal script .number ≡ 0 → recordSize * wordsIn script ≤ length image
     → compileResult script image .refusal ≡ 0
 unfolding compileResult compileRefusal

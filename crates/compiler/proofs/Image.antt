@@ -21,6 +21,7 @@ put-part xs ys bs i n e h =
     ap (λ (z : List ℕ). take i xs ++ (ys ++ z)) d
     ∙ ap (λ (z : List ℕ). take i xs ++ z) (append-nil ys ∙ h ∙ ap (λ (z : List ℕ). bs ++ drop recordSize z) t)
 
+-- an image has 12 bytes for each word
 pub image-length : (ws : List Record) → length (imageBytes ws) ≡ recordSize * length ws
 image-length [] = refl
 image-length (w ∷ ws) =

@@ -107,6 +107,7 @@ words-many script z =
     let k = emit-length (scriptBody script) 0 (halt ∷ []) in
     (omega arith, omega arith)
 
+-- `run` does not refuse a compiled image, with a valid device and a good event list
 pub none-refused :
     (script buffer : List ℕ) (d : Device) (events : List ℕ) → compileResult script buffer .refusal ≡ 0 → deviceInRange d ≡ true
     → eventsRefusal events .number ≡ 0 → runRefusal (wordsWritten script buffer) d freshSequencer events .number ≡ 0
@@ -115,6 +116,7 @@ none-refused script buffer d events accepted inRange all =
     refuses-none (wordsWritten script buffer) d events
     (ap badImage (written-are script buffer accepted) ∙ good-image (wordsOf script) (omega arith) (omega arith)) inRange all
 
+-- the run of the words written halts on the last word, with the world and the steps of the script's own run
 pub whole-run :
     (script buffer : List ℕ) (d : Device) (events : List ℕ) (budget : ℕ) (log : List ℕ) → Bytes script
     → compileResult script buffer .refusal ≡ 0 → length (scriptRun script d events .world .logged) ≤ length log

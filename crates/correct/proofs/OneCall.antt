@@ -58,6 +58,7 @@ compiler-refuses script buffer d events budget log c l e n =
     (rw (e, k, w, compile-is-script script buffer z), rw k)
 
 -- ---- an accepted script
+-- after compiling, `run` refuses exactly what `wholeRefusal` says
 same-refusal :
     (script buffer : List ℕ) (d : Device) (events : List ℕ) → compileResult script buffer .refusal ≡ 0
     → runRefusal (wordsWritten script buffer) d freshSequencer events ≡ wholeRefusal script d events
@@ -74,6 +75,7 @@ same-refusal script buffer d events accepted =
     judged true = refl
     judged false = refl
 
+-- the run of the image ends as `wholeEnd` says
 same-end :
     (script buffer : List ℕ) (d : Device) (events : List ℕ) (budget : ℕ) (log : List ℕ) → Bytes script
     → compileResult script buffer .refusal ≡ 0
@@ -93,6 +95,7 @@ same-end script buffer d events budget log bytes accepted =
     pick false h =
         ap (λ (image : List ℕ). imageRun image d freshSequencer events budget (length log)) (written-are script buffer accepted)
 
+-- so its answer and its log are `wholeAnswer` and `wholeLog`
 pub words-run :
     (script buffer : List ℕ) (d : Device) (events : List ℕ) (budget : ℕ) (log : List ℕ) → Bytes script
     → compileResult script buffer .refusal ≡ 0

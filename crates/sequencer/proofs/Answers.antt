@@ -29,6 +29,7 @@ use Rattle.outcome.specs.declared.Refusal.{Refusal}
 use Rattle.step.specs.declared.Sequencer.{Sequencer}
 use Rattle.step.proofs.Faults.{or-right}
 
+-- a refusal is the answer, and the log is unchanged
 pub refused :
     (image : List ℕ) (d : Device) (s : Sequencer) (events : List ℕ) (budget : ℕ) (log : List ℕ) (f : Refusal)
     → f ≡ runRefusal image d s events → (f .number ≡ 0 → ⊥)
@@ -44,6 +45,7 @@ pub not-refused :
     → f ≡ runRefusal image d s events → f .number ≡ 0 → runRefusal image d s events .number ≡ 0
 not-refused image d s events f e z = sym (ap (λ (x : Refusal). x .number) e) ∙ z
 
+-- without a refusal, the end of `run_words` is the answer
 pub done :
     (image : List ℕ) (d : Device) (s : Sequencer) (events : List ℕ) (budget : ℕ) (log log' : List ℕ) (r : RunResult)
     → runRefusal image d s events .number ≡ 0

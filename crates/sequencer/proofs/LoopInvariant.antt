@@ -30,6 +30,7 @@ pub record LoopInvariant (image : List ℕ) (whole : RunEnd) (events lent : List
   pub within : steps ≤ budget
   pub same : length log ≡ length lent
 
+-- it holds at the start of the run
 pub starts :
     (image : List ℕ) (d : Device) (s : Sequencer) (events lent : List ℕ) (budget : ℕ) (x : Position) (cs : List ℕ) → Starts s x
     → cs ≡ counterArray (countersOf s)
@@ -120,6 +121,7 @@ step-is {image} {whole} {events} {lent} {budget} {log} {x} {steps} g {word} {fau
     sym (k .fault-is ∙ rw (sym w, g .same, h .used, h .logged)) in
     rw (a, f, w)
 
+-- a fault ends the run
 pub faulted :
     {image : List ℕ} {whole : RunEnd} {events lent : List ℕ} {budget : ℕ} {log : List ℕ} {x : RunState} {steps : ℕ} (r : RunResult)
     {word : Record} {fault : ℕ} → LoopInvariant image whole events lent budget log x steps → steps < budget
@@ -127,6 +129,7 @@ pub faulted :
 faulted {image} {whole} {events} {lent} {budget} {log} {x} {steps} r {word} {fault} g l k n e =
     ends fault steps whole r (g .holds) (rw (step-is g k, ne-eqb fault 0 n) at (one-step g l)) e
 
+-- a halt ends the run and counts a step
 pub halted :
     {image : List ℕ} {whole : RunEnd} {events lent : List ℕ} {budget : ℕ} {log : List ℕ} {x : RunState} {steps : ℕ} (r : RunResult)
     {word : Record} {fault : ℕ} → LoopInvariant image whole events lent budget log x steps → steps < budget

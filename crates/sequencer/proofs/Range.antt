@@ -190,6 +190,7 @@ answer-in-range : (events : List ℕ) (e : RunEnd) → MachineInRange (e .machin
 answer-in-range events e h =
     (h .device, array-in-range (e .machine .place) (e .machine .counters) (h .few) (h .counters))
 
+-- a run that gets a valid device and a valid sequencer returns valid ones
 pub run-in-range :
     (image : List ℕ) (d : Device) (s : Sequencer) (events : List ℕ) (budget : ℕ) (log : List ℕ) → deviceInRange d ≡ true
     → sequencerInRange s ≡ true
@@ -245,6 +246,7 @@ execute-logs room words r m c h =
     (branch P (eqb (r .kind) 5) (branch P (eqb (innermost (m .counters) - 1) 0) h h)
     (branch P (eqb (r .kind) 6) none h)))))
 
+-- a run never logs more values than the log has room for
 pub never-logs-beyond :
     (image : List ℕ) (d : Device) (s : Sequencer) (events : List ℕ) (budget room : ℕ)
     → length (imageRun image d s events budget room .machine .world .logged) ≤ room

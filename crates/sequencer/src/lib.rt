@@ -30,7 +30,7 @@ ghost use Rattle.step.specs.Word.{imageWords};
 ghost use Rattle.step.specs.Represents.{runState};
 ghost use Rattle.sequencer.specs.Ends.{Starts, EndsAs, answer};
 
-// The answer of a run. `outcome` is the ending, or the number of a refusal. `place` is the place of a refusal, and 0 after an ending.
+// The answer of a run. `outcome` is the ending or the number of a refusal, `place` the place of a refusal, 0 for an ending.
 pub struct RunResult {
     pub outcome: u32,
     pub place: u32,

@@ -20,6 +20,7 @@ use Rattle.script.specs.Refusals.{innermost}
 use Rattle.step.specs.Sequencer.{counterInRange, countersOf, counterArray, sequencerAt, sequencerInRange}
 use Rattle.step.specs.declared.Sequencer.{Sequencer}
 
+-- ---- push, read, change and pop the top counter
 pub counter-pushed : (cs : List ℕ) (v : ℕ) → length cs < 8 → set (counterArray cs) (length cs) v ≡ counterArray (v ∷ cs)
 counter-pushed cs v h =
     let e : 8 - length cs ≡ suc (8 - suc (length cs)) = omega arith in
@@ -59,6 +60,7 @@ rest-zero :
     (s : Sequencer) → sequencerInRange s ≡ true → (k : ℕ) → s .used ≤ k → k < 8 → getD (s .counters) k 0 ≡ 0
 rest-zero s h k l m = eqb-true _ 0 (rw (le-ltb k (s .used) l) at (in-range-at s h k m))
 
+-- the array of a valid sequencer holds its counters in use, then zeros
 pub counters-array : (s : Sequencer) → sequencerInRange s ≡ true → eight (s .counters) ≡ counterArray (countersOf s)
 counters-array s h =
     let n = s .used in
@@ -111,6 +113,7 @@ rest-at cs k l =
     ∙ getD-append-add (reverse cs) (replicate (8 - length cs) 0) (k - length cs) 0
     ∙ replicate-at 0 (8 - length cs) (k - length cs)
 
+-- at most 8 valid counters make a valid sequencer, at any place
 pub array-in-range :
     (place : ℕ) (cs : List ℕ) → length cs ≤ 8 → AllCount cs → sequencerInRange (sequencerAt place cs) ≡ true
 unfolding sequencerInRange

@@ -125,6 +125,7 @@ after-access {x} {events} {lent} {log} {m} {a} {r} {t} {p} {q} h g e =
       lines = rw n (h .lines);
     }
 
+-- a write
 pub wrote :
     (word : Record) (x : RunState) (events : List ℕ) (r : AccessResult) (t : ℕ) → word .kind ≡ 1
     → Accessing x events (writeOf (word .port) (word .width) (word .value)) r t
@@ -133,7 +134,7 @@ unfolding afterWrite
 wrote word x events r t k g = λ log lent m h.
     rw (execute-write word m k) (after-access h g (add-one _ ∙ ap suc (h .place)))
 
--- ---- a test, which continues or jumps
+-- ---- a test: it continues if the value and the mask have a common 1, and jumps otherwise
 pub test-passed :
     (word : Record) (x : RunState) (events : List ℕ) (r : AccessResult) (t v : ℕ) → word .kind ≡ 6
     → Accessing x events (readOf (word .port) (word .width)) r t → r .answer .value ≡ v → hasBit (word .value) v ≡ true
@@ -211,6 +212,7 @@ movedTo x d p = record {
   logged = x .logged;
 }
 
+-- a delay
 pub after-delay-by :
     (word : Record) (x : RunState) (d : Device) → word .kind ≡ 3 → d ≡ applyEvent (x .device) (tickEvent (word .value))
     → KeepsEvents word x (movedTo x d (x .place + 1))
@@ -244,15 +246,17 @@ to-target p h = record {
   lines = h .lines;
 }
 
+-- a jump
 pub jumped : (word : Record) (x : RunState) → word .kind ≡ 7 → KeepsEvents word x (movedTo x (x .device) (word .target))
 jumped word x k = λ events log lent m h. rw (execute-jump word m k) (to-target (word .target) h)
 
+-- an enter with value 0
 pub enter-none :
     (word : Record) (x : RunState) → word .kind ≡ 4 → word .value ≡ 0
     → KeepsEvents word x (movedTo x (x .device) (word .target))
 enter-none word x k z = λ events log lent m h. rw (execute-enter word m k, eq-eqb (word .value) 0 z) (to-target (word .target) h)
 
--- ---- counters
+-- ---- words that change the counters
 abbrev pub countedTo : RunState → (counters : List ℕ) (used place : ℕ) → RunState
 countedTo x cs u p = record {
   device = x .device;
@@ -279,6 +283,7 @@ with-counters xs u p q cs h a b l e = record {
   lines = h .lines;
 }
 
+-- if 8 counters in use require the value 0, another value leaves room for a counter
 pub room-left : (used value : ℕ) → (8 ≤ used → value ≡ 0) → (value ≡ 0 → ⊥) → used < 8
 room-left used value f n = pick (decLt used 8)
   where
@@ -286,6 +291,7 @@ room-left used value f n = pick (decLt used 8)
     pick (yes l) = l
     pick (no l) = absurd (n (f (omega arith)))
 
+-- an enter with another value
 pub enter-pushed :
     (word : Record) (x : RunState) → word .kind ≡ 4 → (word .value ≡ 0 → ⊥) → x .used < 8
     → KeepsEvents word x (countedTo x (set (x .counters) (x .used) (word .value)) (x .used + 1) (x .place + 1))
@@ -328,6 +334,7 @@ topped x m a u l z = pick (m .counters) refl
           lowered = λ v. rw (w, a, e) (counter-set c cs v);
         }
 
+-- a loop end at the last turn
 pub loop-over :
     (word : Record) (x : RunState) → word .kind ≡ 5 → 0 < x .used → getD (x .counters) (x .used - 1) 0 ≤ 1
     → KeepsEvents word x (countedTo x (set (x .counters) (x .used - 1) 0) (x .used - 1) (x .place + 1))
@@ -339,6 +346,7 @@ loop-over word x k z l = λ events log lent m h.
     (t .popped) (t .under)
     (omega (arith, t .room)) (add-one _ ∙ ap suc (h .place)))
 
+-- a loop end before the last turn
 pub loop-again :
     (word : Record) (x : RunState) → word .kind ≡ 5 → 0 < x .used → 1 < getD (x .counters) (x .used - 1) 0
     → KeepsEvents word x
