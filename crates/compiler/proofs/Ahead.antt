@@ -1,5 +1,5 @@
--- The compiler's walk over flat records: the look-ahead gives the place to which a block leads, and the words of the walk
--- are those of the nested reading. Assumes nothing.
+-- The pass over the flat records gives the words of the nested script (`emit-script`), because looking ahead from inside a
+-- block finds the place after its body.
 use Prim.Native.Nat.{ℕ, suc}
 use mathlib.Core.Path.{_≡_, refl, ap, _∙_}
 use mathlib.Core.Bool.{false}
@@ -15,7 +15,7 @@ use Rattle.script.proofs.Flat.{accepts, reading-flat}
 use Rattle.compiler.specs.Emit.{lookAhead, emitFlat, framesAfter}
 use Rattle.compiler.specs.Words.{placeAfter, emit, halt, word, wordsOf}
 
--- ---- a record, looked at from a block around it: one that closes no block, an end of a loop
+-- ---- looking ahead passes over one record: one that is no else and no end, or the end of an inner repeat
 pub ahead-word : (frames : List ℕ) (place : ℕ) (r : Record) (rs : List Record) → eqb (r .kind) 6 ≡ false
     → eqb (r .kind) 7 ≡ false
     → lookAhead frames place (r ∷ rs) ≡ lookAhead (framesAfter frames place (r .kind)) (suc place) rs
@@ -26,7 +26,7 @@ ahead-loop-end : (frames : List ℕ) (at place : ℕ) (tl : List Record)
     → lookAhead (suc at ∷ frames) place (endRecord ∷ tl) ≡ lookAhead frames (suc place) tl
 ahead-loop-end frames at place tl = rw (ne-eqb (suc at) 0 (omega arith))
 
--- the look-ahead passes over a body
+-- looking ahead passes over a whole body
 pub ahead-flat : (b : Body) (frames : List ℕ) (at : ℕ) (tl : List Record)
     → lookAhead frames at (flat b tl) ≡ lookAhead frames (placeAfter at b) tl
 ahead-flat done frames at tl = refl
@@ -51,7 +51,7 @@ ahead-flat (ifElse p w m b c rest) frames at tl =
     ∙ ahead-flat c (0 ∷ frames) (suc (placeAfter (suc at) b)) (endRecord ∷ flat rest tl)
     ∙ ahead-flat rest frames (placeAfter (suc (placeAfter (suc at) b)) c) tl
 
--- ---- where a block leads, looked at from its first record
+-- ---- looking ahead from the first record of a body finds its end or its else
 to-end : (at : ℕ) (b : Body) (tl : List Record) → lookAhead [] at (flat b (endRecord ∷ tl)) ≡ placeAfter at b
 to-end at b tl = ahead-flat b [] at (endRecord ∷ tl)
 
@@ -62,7 +62,7 @@ loop-end : (frames : List ℕ) (at place : ℕ) (tl : List Record)
     → emitFlat (suc at ∷ frames) place (endRecord ∷ tl) ≡ word 5 0 0 (suc at) 0 ∷ emitFlat frames (suc place) tl
 loop-end frames at place tl = rw (ne-eqb (suc at) 0 (omega arith))
 
--- the walk gives a body's words
+-- the pass gives the words of a body, then those of the records after it
 pub emit-flat : (b : Body) (frames : List ℕ) (at : ℕ) (tl : List Record)
     → emitFlat frames at (flat b tl) ≡ emit at b (emitFlat frames (placeAfter at b) tl)
 emit-flat done frames at tl = refl
@@ -91,12 +91,13 @@ emit-flat (ifElse p w m b c rest) frames at tl =
       emit-flat rest frames (placeAfter (suc (placeAfter (suc at) b)) c) tl,
     )
 
--- the walk over an accepted list gives the words of its nested reading
+-- the pass over an accepted list of records gives the words of its nested form
 pub emit-records : (rs : List Record) → firstFault [] 0 rs .number ≡ 0
     → emitFlat [] 0 rs ≡ emit 0 (bodyIn (readingOf rs)) (halt ∷ [])
 emit-records rs h =
     ap (λ (l : List Record). emitFlat [] 0 l) (reading-flat rs h) ∙ emit-flat (bodyIn (readingOf rs)) [] 0 []
 
+-- the same for the bytes of an accepted script
 pub emit-script :
     (script : List ℕ) → scriptRefusal script .number ≡ 0 → emitFlat [] 0 (recordsOf script) ≡ wordsOf script
 unfolding wordsOf scriptBody

@@ -1,6 +1,6 @@
--- What the compiler answers and leaves in the buffer, from what the scan found and whether the words fit; and that it
--- refuses exactly when one of refusals 1 to 8 holds of the script or the buffer is shorter than its words.
--- Assumes nothing.
+-- The answer of the compiler and the buffer after it, from the result of the scan and the length of the buffer. Also: a
+-- script is refused exactly when one of refusals 1 to 8 applies or the buffer is too short for its words (`refuses-not`,
+-- `accepts-all`).
 use Prim.Native.Nat.{ℕ, _*_, _%_, _≤_}
 use mathlib.Core.Path.{_≡_, refl, sym, ap, _∙_}
 use mathlib.Core.Bool.{Bool, true, false, cond}
@@ -37,7 +37,7 @@ module _ (script image : List ℕ) (s : ScanResult) (e : s ≡ scriptScan script
   unfolding scriptScan
   words-are z = ap (λ (x : ScanResult). x .words) e ∙ (rw (accepted-by z))
 
-  -- ---- refused by the scan
+  -- ---- a refusal by the scan
   pub refused : (s .number ≡ 0 → ⊥)
       → (_≡_ {A = CompileResult} (record { refusal = s .number; place = s .place; words = 0 }) (compileResult script image))
       × (image ≡ imageAfter script image)
@@ -46,7 +46,7 @@ module _ (script image : List ℕ) (s : ScanResult) (e : s ≡ scriptScan script
       let n : eqb (scriptRefusal script .number) 0 ≡ false = rw number-is at (ne-eqb (s .number) 0 z) in
       (rw (n, n, number-is, place-is), rw (n, n))
 
-  -- ---- the words do not fit
+  -- ---- the buffer is too short
   pub unfit : s .number ≡ 0 → ltb (length image) (recordSize * s .words) ≡ true
       → (_≡_ {A = CompileResult} (record { refusal = 9; place = recordCount script % 4096; words = 0 }) (compileResult script image))
       × (image ≡ imageAfter script image)
@@ -57,7 +57,7 @@ module _ (script image : List ℕ) (s : ScanResult) (e : s ≡ scriptScan script
       let p : recordCount script % 4096 ≡ recordCount script = omega arith in
       (rw (accepted-by z, t, p), rw (accepted-by z, t))
 
-  -- ---- compiled
+  -- ---- success
   pub fit : s .number ≡ 0 → ltb (length image) (recordSize * s .words) ≡ false → recordSize * length (wordsOf script) ≤ length image
   fit z l =
       rw (← (count-words script (accepted-by z)))
@@ -88,6 +88,7 @@ refuses-not script image h =
         (eqb-true (scriptRefusal script .number) 0 p, ltb-false (length image) (recordSize * wordsIn script) q)
     pick false b p q z = absurd (eqb-false (scriptRefusal script .number) 0 p z)
 
+-- the converse: any other script is accepted
 pub accepts-all : (script image : List ℕ) → scriptRefusal script .number ≡ 0 → recordSize * wordsIn script ≤ length image
     → compileResult script image .refusal ≡ 0
 unfolding compileResult compileRefusal

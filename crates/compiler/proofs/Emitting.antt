@@ -1,5 +1,5 @@
--- The loop that writes the image: what holds before each record, what a record leaves, and what the last word completes.
--- Assumes nothing.
+-- The loop invariant of `emit`: what holds before record k, that a record keeps it, and that the halt after the last record
+-- completes the image.
 use Prim.Native.Nat.{ℕ, suc, _+_, _-_, _*_, _≤_, _<_}
 use mathlib.Core.Path.{_≡_, refl, sym, ap, _∙_}
 use mathlib.Core.Bool.{Bool, true, false, cond, not, _&&_}
@@ -34,6 +34,7 @@ pub record Emitting (script lent targets image : List ℕ) (count place k : ℕ)
   pub written : image ≡ imageBytes words ++ drop (recordSize * place) lent
   pub same : length image ≡ length lent
 
+-- it holds at the start: no word is written
 pub begins : (script lent targets : List ℕ) (count : ℕ) → count ≡ recordCount script
     → scriptRefusal script .number ≡ 0 → recordSize * length (wordsOf script) ≤ length lent
     → TargetsFrom targets 0 [] 0 (recordsOf script) → Emitting script lent targets lent count 0 0
@@ -54,7 +55,7 @@ begins script lent targets count e h l a =
       same = refl;
     }
 
--- ---- room for a word more
+-- ---- at least one more word follows, so there is room for it
 some-word : (rs : List Record) (frames : List ℕ) (place : ℕ) → 1 ≤ length (emitFlat frames place rs)
 some-word [] frames place = omega arith
 some-word (r ∷ rs) frames place =
@@ -69,7 +70,7 @@ some-word (r ∷ rs) frames place =
     pick true h = omega arith
     pick false h = h
 
--- a target tells whether its record gives a word
+-- the target of a record shows whether it becomes a word, as its frame does
 emits-by : (frame lead kind : ℕ) → emitsWord (targetFor frame lead kind) kind ≡ emitsWord frame kind
 emits-by frame lead kind = pick (eqb kind 7) _
   where
@@ -115,7 +116,7 @@ module _ {script lent targets image : List ℕ} {count place k : ℕ} (g : Emitt
     unrolled =
         ap (λ (l : List Record). g .words ++ emitFlat (g .frames) place l) (sym here) ∙ g .whole
 
-    -- it gives a word, which is written
+    -- it becomes a word, which is written
     pub goes-on : {w : Record} {now : List ℕ} → emitsWord (getD targets k 0) (r .kind) ≡ true
         → w ≡ word (wordKind (r .kind)) (r .width) (r .port) (getD targets k 0) (r .value)
         → now ≡ take (recordSize * place) image ++ (bytesOf w ++ drop recordSize (drop (recordSize * place) image)) → length now ≡ length image
@@ -136,7 +137,7 @@ module _ {script lent targets image : List ℕ} {count place k : ℕ} (g : Emitt
           same = l ∙ g .same;
         }
 
-    -- it gives none
+    -- it becomes no word
     pub passes : emitsWord (getD targets k 0) (r .kind) ≡ false → Emitting script lent targets image count place (k + 1)
     passes b =
         let n : emitsWord (innermost (g .frames)) (r .kind) ≡ false = sym emits-so ∙ b in
@@ -154,7 +155,7 @@ module _ {script lent targets image : List ℕ} {count place k : ℕ} (g : Emitt
           same = g .same;
         }
 
-  -- the halt completes the words
+  -- the halt completes the image
   pub completes : {now : List ℕ} → count ≤ k
       → now ≡ take (recordSize * place) image ++ (bytesOf halt ++ drop recordSize (drop (recordSize * place) image))
       → now ≡ imageBytes (wordsOf script) ++ drop (recordSize * length (wordsOf script)) lent

@@ -1,5 +1,5 @@
--- The pass that fills the table of targets, with the open blocks in two arrays: what holds before record k, and what each
--- kind of record leaves. Assumes nothing.
+-- The loop invariant of `fill_targets`: what holds before record k, and that each kind of record keeps it. It restates
+-- `Aiming` (Targets.antt) for the two arrays in which the code keeps the open blocks.
 use Prim.Native.Nat.{ℕ, suc, _+_, _-_, _*_, _≤_, _<_}
 use mathlib.Core.Path.{_≡_, sym, ap, _∙_}
 use mathlib.Core.Bool.{Bool, true, false, cond, not, _||_}
@@ -33,6 +33,7 @@ pub record Filling (script : List ℕ) (count : ℕ) (table waiting starts : Lis
       Aiming (recordsOf script) (recordsFrom (count - k) k script) table (stackOf depth starts) (stackOf depth waiting)
       place k
 
+-- it holds at the start: no block is open and the table is all 0
 pub begins : (script table waiting starts : List ℕ) (count : ℕ) → count ≡ recordCount script
     → scriptRefusal script .number ≡ 0 → table ≡ replicate 1024 0 → length waiting ≡ 16 → length starts ≡ 16
     → Filling script count table waiting starts 0 0 0
@@ -55,7 +56,7 @@ begins script table waiting starts count e h t w s =
       };
     }
 
--- ---- at record k, with its kind
+-- ---- one turn of the loop: record k and its kind
 pub record Turn (script : List ℕ) (count : ℕ) (table waiting starts : List ℕ) (depth place k kind : ℕ) : Type 0 where
   pub filling : Filling script count table waiting starts depth place k
   pub within : k < count
@@ -191,7 +192,7 @@ module _ {script : List ℕ} {count : ℕ} {table waiting starts : List ℕ} {de
         one-on true = omega arith
         one-on false = omega arith
 
--- ---- behind the last record
+-- ---- after the last record
 pub filled : {script : List ℕ} {count : ℕ} {table waiting starts : List ℕ} {depth place k : ℕ}
     → Filling script count table waiting starts depth place k → count ≤ k → TargetsFrom table 0 [] 0 (recordsOf script)
 filled {script = script} {count = count} {k = k} g h = completes (rw (after-last script count k h) at (g .aiming))

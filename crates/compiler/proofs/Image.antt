@@ -1,5 +1,4 @@
--- The image as it is written, word by word: the words written so far, and then the buffer as it was lent.
--- Assumes nothing.
+-- The image while it is written: the words so far, then the rest of the buffer, unchanged. Writing one more word keeps this form.
 use Prim.Native.Nat.{ℕ, _+_, _-_, _*_}
 use mathlib.Core.Path.{_≡_, refl, sym, ap, _∙_}
 use mathlib.Core.List.{List, [], _∷_, _++_, append-assoc, append-nil}
@@ -12,7 +11,7 @@ use Rattle.record.specs.Record.{bytesOf, recordSize}
 use Rattle.record.specs.declared.Record.{Record}
 use Rattle.compiler.specs.Words.{imageBytes}
 
--- a part that starts at i, with its front written over, put back
+-- overwriting the front of the part that starts at i changes only those bytes of the whole
 pub put-part : (xs ys bs : List ℕ) (i n : ℕ) → n ≡ length xs - i → ys ≡ bs ++ drop recordSize (take n (drop i xs))
     → putMid i n xs ys ≡ take i xs ++ (bs ++ drop recordSize (drop i xs))
 put-part xs ys bs i n e h =
@@ -22,6 +21,7 @@ put-part xs ys bs i n e h =
     ap (λ (z : List ℕ). take i xs ++ (ys ++ z)) d
     ∙ ap (λ (z : List ℕ). take i xs ++ z) (append-nil ys ∙ h ∙ ap (λ (z : List ℕ). bs ++ drop recordSize z) t)
 
+-- an image has 12 bytes for each word
 pub image-length : (ws : List Record) → length (imageBytes ws) ≡ recordSize * length ws
 image-length [] = refl
 image-length (w ∷ ws) =
@@ -35,7 +35,7 @@ image-append [] ws = refl
 image-append (u ∷ us) ws =
     ap (λ (z : List ℕ). bytesOf u ++ z) (image-append us ws) ∙ sym (append-assoc (bytesOf u) (imageBytes us) (imageBytes ws))
 
--- one more word
+-- n words are written; writing word n gives n + 1 words
 pub one-more-word : (ws : List Record) (w : Record) (lent image : List ℕ) (n : ℕ) → length ws ≡ n
     → image ≡ imageBytes ws ++ drop (recordSize * n) lent
     → take (recordSize * n) image ++ (bytesOf w ++ drop recordSize (drop (recordSize * n) image))

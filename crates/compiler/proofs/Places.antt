@@ -1,5 +1,4 @@
--- How many words a body gives: as many as the places it takes, and as many as the scan of its records counts.
--- Assumes nothing.
+-- The number of words of a body: the number of places that it takes, and the number that the scan counts (`count-words`).
 use Prim.Native.Nat.{ℕ, suc, _+_, _≤_}
 use mathlib.Core.Path.{_≡_, ap, _∙_}
 use mathlib.Core.List.{List, [], _∷_}
@@ -12,7 +11,7 @@ use Rattle.script.specs.Refusals.{firstFault, scriptRefusal, wordCount, wordsIn
 use Rattle.script.proofs.Flat.{accepts, reading-flat}
 use Rattle.compiler.specs.Words.{placeAfter, emit, halt, word, wordsOf}
 
--- the place behind a body is not before it
+-- the place after a body is not before its first place
 pub after-from : (b : Body) (at : ℕ) → at ≤ placeAfter at b
 after-from done at = omega arith
 after-from (write p w v rest) at = let i = after-from rest (suc at) in omega arith
@@ -32,7 +31,7 @@ after-from (ifElse p w m b c rest) at =
     let k = after-from rest (placeAfter (suc (placeAfter (suc at) b)) c) in
     omega arith
 
--- a body's words are as many as the places from its first to the one behind it
+-- a body has one word for each place from its first to the one after it
 pub emit-length : (b : Body) (at : ℕ) (ws : List Record) → length (emit at b ws) + at ≡ placeAfter at b + length ws
 emit-length done at ws = omega arith
 emit-length (write p w v rest) at ws = let i = emit-length rest (suc at) ws in omega arith
@@ -55,7 +54,7 @@ emit-length (ifElse p w m b c rest) at ws =
     let k = emit-length rest (placeAfter middle c) ws in
     omega arith
 
--- the scan of a body's records counts its words
+-- the scan counts one word for each place of a body
 pub count-flat : (b : Body) (blocks : List ℕ) (at : ℕ) (tl : List Record)
     → wordCount blocks (flat b tl) + at ≡ placeAfter at b + wordCount blocks tl
 count-flat done blocks at tl = omega arith
@@ -77,7 +76,7 @@ count-flat (ifElse p w m b c rest) blocks at tl =
     let k = count-flat rest blocks (placeAfter middle c) tl in
     omega arith
 
--- an accepted list gives a word for each place of its body, and the halt
+-- for an accepted list of records, the scan counts the words of the body and the halt
 pub count-records : (rs : List Record) → firstFault [] 0 rs .number ≡ 0
     → wordCount [] rs ≡ suc (placeAfter 0 (bodyIn (readingOf rs)))
 count-records rs h =
@@ -85,7 +84,7 @@ count-records rs h =
     let i : wordCount [] (flat b []) ≡ suc (placeAfter 0 b) = let c = count-flat b [] 0 [] in omega arith in
     ap (λ (l : List Record). wordCount [] l) (reading-flat rs h) ∙ i
 
--- the words that the scan of an accepted script counts are its words
+-- the scan counts exactly the words of an accepted script
 pub count-words : (script : List ℕ) → scriptRefusal script .number ≡ 0 → wordsIn script ≡ length (wordsOf script)
 unfolding wordsOf scriptBody
 count-words script h =

@@ -1,6 +1,6 @@
--- The pass that fills the table of targets, over lists: before each record, an earlier record has its target in the table, or
--- it waits, and then the look-ahead from here leads to where the look-ahead behind that record does. At the block's end, and
--- at its else, the look-ahead stops and its place is written. Assumes nothing.
+-- Why the table of targets is right, over lists instead of arrays. Before each record, every earlier record has its target in
+-- the table or is waiting for it. For a waiting record, looking ahead from here finds the same place as looking ahead from
+-- that record did. At the else or the end of its block this place is known, and is written.
 use Prim.Native.Nat.{ℕ, suc, _+_, _≤_, _<_}
 use mathlib.Core.Path.{_≡_, refl, ap, _∙_}
 use mathlib.Core.Bool.{Bool, true, false, cond, not, _||_, false≢true}
@@ -32,7 +32,7 @@ use Rattle.script.proofs.Flat.{
 use Rattle.compiler.specs.Emit.{lookAhead, TargetsFrom, framesAfter, placeAfterRecord, targetFor}
 use Rattle.compiler.proofs.Ahead.{ahead-word}
 
--- ---- an accepted list, one record on
+-- ---- an accepted list of records without its first record is accepted too, with the blocks then open
 pub record Next (bs : List Block) (r : Record) (rs : List Record) : Type 0 where
   pub blocks : List Block
   pub accepted : Accepted blocks rs
@@ -54,8 +54,8 @@ next (tests {bs = bs} a b l x) = record { blocks = unelsed ∷ bs; accepted = x;
 next (elses {bs = bs} x) = record { blocks = withElse ∷ bs; accepted = x; opened = refl; most = omega arith; room = never; in-if = λ e. refl; in-block = λ e. omega arith }
 next (ends {bs = bs} x) = record { blocks = bs; accepted = x; opened = refl; most = omega arith; room = never; in-if = never; in-block = λ e. omega arith }
 
--- ---- the open blocks, innermost first, each with its frame and the record that waits: an outer one waits longer, and an
--- if still without an else has the frame 0
+-- ---- the open blocks, innermost first, each with its frame and its waiting record
+-- records of outer blocks have smaller numbers; the frame of an if without an else (5) is 0
 pub data Waits : (blocks frames waiting : List ℕ) → ℕ → Type 0 where
   none : {k : ℕ} → Waits [] [] [] k
   more : {b f w k : ℕ} {bs fs ws : List ℕ} → w < k → (b ≡ 5 → f ≡ 0) → Waits bs fs ws w
@@ -78,7 +78,8 @@ pub as-many : {bs fs ws : List ℕ} {k : ℕ} → Waits bs fs ws k → length fs
 as-many none = refl
 as-many (more l e x) = ap suc (as-many x)
 
--- ---- entry j once all open blocks are closed: `lead` says where a block leads, given the frames of the blocks in it
+-- ---- entry j of the table once all open blocks are closed
+-- `lead` is the place found by looking ahead, given the frames of the blocks inside; `own` is the entry now
 abbrev pub aim : ℕ → ℕ → ℕ
 aim frame lead = cond (eqb frame 0) lead (suc lead)
 
@@ -95,14 +96,14 @@ agrees p q h (f ∷ fs) [] j own = refl
 agrees p q h (f ∷ fs) (w ∷ ws) j own =
     rw (h [], agrees (λ inner. p (f ∷ inner)) (λ inner. q (f ∷ inner)) (λ inner. h (f ∷ inner)) fs ws j own)
 
--- a record that does not wait keeps its entry
+-- the entry of a record that does not wait is unchanged
 keeps : {bs fs ws : List ℕ} {k : ℕ} (lead : List ℕ → ℕ) (j own : ℕ) → k ≤ j → Waits bs fs ws k
     → settled lead fs ws j own ≡ own
 keeps lead j own h none = refl
 keeps lead j own h (more {f = f} {w = w} l e x) =
     rw (ne-eqb j w (λ q. omega arith)) (keeps (λ inner. lead (f ∷ inner)) j own (omega arith) x)
 
--- the entry of the innermost block's record, written
+-- writing the target of the innermost waiting record does not change the table as it will be once all blocks are closed
 written : {bs fs ws : List ℕ} {w : ℕ} (f : ℕ) (p q : List ℕ → ℕ) (table : List ℕ) (v : ℕ) → w < length table
     → Waits bs fs ws w → v ≡ aim f (p []) → ((inner : List ℕ) → q inner ≡ p (f ∷ inner)) → (j : ℕ)
     → settled q fs ws j (getD (set table w v) j 0) ≡ settled p (f ∷ fs) (w ∷ ws) j (getD table j 0)
@@ -123,7 +124,7 @@ pub record Aiming (all rs : List Record) (table frames waiting : List ℕ) (plac
   pub accepted : Accepted blocks rs
   pub waits : Waits (numbers blocks) frames waiting k
   pub fresh : (j : ℕ) → k ≤ j → getD table j 0 ≡ 0
-  -- a table that has the entries below k, once settled, and the targets from k on, has all targets
+  -- a table with these entries below k, once all blocks are closed, and the targets from k on has all targets
   pub aims : (targets : List ℕ)
       → ((j : ℕ) → j < k → getD targets j 0 ≡ settled (λ inner. lookAhead inner place rs) frames waiting j (getD table j 0))
       → TargetsFrom targets k frames place rs → TargetsFrom targets 0 [] 0 all
@@ -133,7 +134,7 @@ module _ {all rs : List Record} {r : Record} {table frames waiting : List ℕ} {
   after : Next (g .blocks) r rs
   after = next (g .accepted)
 
-  -- the entries below k settle as they did, and that of k at its target
+  -- one record further: entries below k are unchanged once all blocks are closed, and entry k is its target
   onward : (table₁ frames₁ waiting₁ : List ℕ) (place₁ : ℕ)
       → framesAfter frames place (r .kind) ≡ frames₁ → placeAfterRecord (innermost frames) place (r .kind) ≡ place₁
       → Waits (openAfter (numbers (g .blocks)) (r .kind)) frames₁ waiting₁ (k + 1)
@@ -203,10 +204,10 @@ module _ {all rs : List Record} {r : Record} {table frames waiting : List ℕ} {
   ifs-open e =
       opens 0 (rw e) (rw e) (λ inner. rw e) (λ lead. rw e) 5 (rw e) (λ q. refl)
 
--- ---- an else or an end, in a block with the frame f, whose record w waits
+-- ---- an else or an end, in a block with frame f and waiting record w
 module _ {all rs : List Record} {r : Record} {table fs ws : List ℕ} {f w place k : ℕ}
     (g : Aiming all (r ∷ rs) table (f ∷ fs) (w ∷ ws) place k) (sized : k < length table) where
-  -- a test aims behind the jump of its else, which waits in its place
+  -- the target of the test is the place after the jump of its else; the else now waits
   pub elses-wait : r .kind ≡ 6
       → Aiming all rs (set table w (place + 1)) (f ∷ fs) (k ∷ ws) (place + 1) (k + 1)
   elses-wait e =
@@ -221,7 +222,7 @@ module _ {all rs : List Record} {r : Record} {table fs ws : List ℕ} {f w place
       (rw (e, f-is, add-one place)) (λ inner. rw (e, add-one place)) j))
       (rw (eq-eqb k k refl, f-is, e, add-one place))
 
-  -- an enter aims behind its loop end, which aims at its body; a test without an else, or an else, aims at its end
+  -- the target of an enter is after its loop end, that of the loop end is the body, that of a test or a jump is here
   pub ends-close : (place₁ : ℕ) → r .kind ≡ 7 → place₁ ≡ placeAfterRecord f place 7
       → Aiming all rs (set (set table k f) w place₁) fs ws place₁ (k + 1)
   ends-close place₁ e p =
@@ -248,7 +249,7 @@ module _ {all rs : List Record} {r : Record} {table fs ws : List ℕ} {f w place
           pick true = refl
           pick false = refl
 
--- ---- behind the last record no block is open, and the table has all targets
+-- ---- after the last record no block is open, and the table has all targets
 pub completes : {all : List Record} {table frames waiting : List ℕ} {place k : ℕ} → Aiming all [] table frames waiting place k
     → TargetsFrom table 0 [] 0 all
 completes {table = table} g = g .aims table (λ j l. settles _ (g .accepted) (g .waits) j) tt

@@ -1,4 +1,4 @@
--- Document 01: what the compiler answers, and every byte of the image buffer afterwards.
+-- The answer of the compiler, and every byte of the image buffer afterwards. See docs/CHIP.md, "Words" and "Refusals".
 use Prim.Native.Nat.{ℕ, _*_}
 use mathlib.Core.Bool.{Bool, cond}
 use mathlib.Core.List.{List, _++_}
@@ -13,18 +13,18 @@ use Rattle.outcome.specs.declared.Refusal.{Refusal}
 use Rattle.compiler.specs.Words.{imageBytes, wordsOf}
 use Rattle.compiler.specs.declared.CompileResult.{CompileResult}
 
--- 9: "image buffer too short (record count)"
+-- refusal 9: "image buffer too short (record count)"
 abbrev pub tooShort : List ℕ → List ℕ → Bool
 tooShort script image = ltb (length image) (recordSize * wordsIn script)
 
--- "then 7, 8, 9"
+-- "1; then the first record with a fault, least number; then 7, 8, 9"
 unfoldable pub compileRefusal : List ℕ → List ℕ → Refusal
 compileRefusal script image =
     cond (eqb (scriptRefusal script .number) 0)
     (cond (tooShort script image) (refusal number.bufferTooShort (recordCount script)) (refusal 0 0))
     (scriptRefusal script)
 
--- "else the word count"; a refusal's other numbers are 0
+-- "else the word count"; "A refusal's other numbers are 0"
 unfoldable pub compileResult : List ℕ → List ℕ → CompileResult
 compileResult script image = record {
   refusal = compileRefusal script image .number;
@@ -32,7 +32,7 @@ compileResult script image = record {
   words = cond (eqb (compileRefusal script image .number) 0) (wordsIn script) 0;
 }
 
--- a refusal leaves the buffer as lent; "Success leaves the image buffer's rest as lent."
+-- the image buffer after the call; a refusal leaves it unchanged. "Success leaves the image buffer's rest as lent."
 unfoldable pub imageAfter : List ℕ → List ℕ → List ℕ
 imageAfter script image =
     cond (eqb (compileRefusal script image .number) 0)

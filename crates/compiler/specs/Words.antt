@@ -1,5 +1,5 @@
--- Document 01, "Scripts and images": the words of a script. "Word kinds: 1, 2, 3 as above; 4 enter [..]; 5 loop end [..];
--- 6 test [..]; 7 jump; 8 halt." "word mark C3 3C"
+-- The words of a script: `wordsOf`, and their bytes, `imageBytes`. See docs/CHIP.md, "Words".
+-- "Word kinds: 1, 2, 3 as above; 4 enter [..]; 5 loop end [..]; 6 test [..]; 7 jump; 8 halt." "word mark C3 3C"
 use Prim.Native.Nat.{ℕ, suc}
 use mathlib.Core.List.{List, [], _∷_, _++_}
 use Rattle.record.specs.Record.{bytesOf}
@@ -9,8 +9,8 @@ use Rattle.script.specs.Nested.{Body, done, write, read, delay, repeat, if, ifE
 abbrev pub word : (kind width port target value : ℕ) → Record
 word k w p t v = record { mark = 0x3CC3; kind = k; width = w; port = p; target = t; value = v }
 
--- the place behind the words of a body that starts at a place: "Records give one word in order, except that the end of an
--- if gives none"
+-- the place after the words of a body whose first word is at a place. "Records give one word in order, except that the end of
+-- an if gives none"
 abbrev pub placeAfter : ℕ → Body → ℕ
 placeAfter at done = at
 placeAfter at (write p w v rest) = placeAfter (suc at) rest
@@ -20,8 +20,8 @@ placeAfter at (repeat n b rest) = placeAfter (suc (placeAfter (suc at) b)) rest
 placeAfter at (if p w m b rest) = placeAfter (placeAfter (suc at) b) rest
 placeAfter at (ifElse p w m b c rest) = placeAfter (placeAfter (suc (placeAfter (suc at) b)) c) rest
 
--- the words of a body that starts at a place, and then ws. "Enter aims behind its loop end, loop end at its body, test
--- behind its else's jump or at its end, else at its end."
+-- the words of a body whose first word is at a place, followed by ws. "Enter aims behind its loop end, loop end at its body,
+-- test behind its else's jump or at its end, else at its end."
 abbrev pub emit : ℕ → Body → List Record → List Record
 emit at done ws = ws
 emit at (write p w v rest) ws = word 1 w p 0 v ∷ emit (suc at) rest ws

@@ -1,4 +1,6 @@
-// The compiler: script bytes in, words into a lent image buffer, the word count or a refusal out.
+// The compiler: checks a script, writes its words to the front of the image buffer, and returns their number or a refusal.
+// `compile` is the only public call; `correct`, `runnelopal` and `replay` use it. It relies on `script::scan` for refusals 1
+// to 8. See docs/CHIP.md, "Words" and "Refusals".
 use record::Record;
 ghost use mathlib.Core.Path.{_≡_};
 ghost use mathlib.Core.Bool.{cond};
@@ -13,14 +15,14 @@ ghost use Rattle.compiler.specs.Compile.{compileResult, imageAfter};
 ghost use Rattle.compiler.specs.Emit.{TargetsFrom, emitsWord, placeAfterRecord, wordKind};
 ghost use Rattle.compiler.specs.Words.{word, imageBytes, wordsOf};
 
-// Number 0 and the words written, or a refusal with its place.
+// Refusal 0 and the number of words written, or a refusal with its place.
 pub struct CompileResult {
     pub refusal: u32,
     pub place: u32,
     pub words: u32,
 }
 
-// The kinds of the words that have not the kind of their record.
+// Word kinds. A write, a read, a delay and a repeat keep their kind; these are the others.
 const LOOP_END: u32 = 5;
 
 const TEST: u32 = 6;
@@ -29,9 +31,9 @@ const JUMP: u32 = 7;
 
 const HALT: u32 = 8;
 
-// ---- the targets
+// ---- targets
 
-// What is kept of a block that opens: 0 for an if, the place of its body for a repeat.
+// What is kept of a block while it is open: 0 for an if, the place of its body for a repeat.
 fn start_of(kind: u32, body: u32) -> u32
     ensures { λ r. ⌜ r ≡ cond (eqb kind 5) 0 body ⌝ }
 {
@@ -41,7 +43,7 @@ fn start_of(kind: u32, body: u32) -> u32
     body
 }
 
-// The place behind a block whose end stands at `place`: the end of an if gives no word.
+// The place after a block whose end is reached at `place`. The end of an if becomes no word.
 fn place_after_end(start: u32, place: u32) -> u32
     requires { ⌜ place ≤ mostRecords ⌝ }
     ensures { λ r. ⌜ r ≡ placeAfterRecord start place 7 ⌝ }
@@ -52,21 +54,21 @@ fn place_after_end(start: u32, place: u32) -> u32
     place + 1
 }
 
-// The target of each word, at its record's number: a loop end aims at its body; an enter, a test or an else waits for its
-// block's end, or a test for its else, and aims behind it.
+// Fills in the target of each record's word, in one pass. A loop end jumps back to its body. An enter, a test and the jump of an
+// else jump forward, so their targets are filled in later: at the end of the block or, for a test, at its else.
 fn fill_targets(script: &[u8], count: usize, targets: &mut [u32; Record::MOST])
     requires { ⌜ (count ≡ length (now script) / recordSize) × (scriptRefusal (now script) .number ≡ 0) ⌝ }
     requires { ⌜ now targets ≡ replicate mostRecords 0 ⌝ }
     ensures { λ _. ⌜ TargetsFrom (now (targets .exit)) 0 [] 0 (recordsOf (now (script .entry))) ⌝ }
 {
-    // The open blocks: the record of each that waits, and what is kept of its start.
+    // The open blocks, outermost first: the record whose target is still missing, and the value of `start_of`.
     let mut waiting: [usize; script::MOST_BLOCKS] = [0; script::MOST_BLOCKS];
     let mut starts: [u32; script::MOST_BLOCKS] = [0; script::MOST_BLOCKS];
     let mut depth: usize = 0;
     let mut place: u32 = 0;
     let mut k: usize = 0;
     while k < count {
-        // The kind of a record is all that the targets go by.
+        // The targets depend only on the kinds of the records.
         let kind = record::kind_at(script, Record::SIZE * k);
         let next_place = place + 1;
         let next = k + 1;
@@ -79,12 +81,13 @@ fn fill_targets(script: &[u8], count: usize, targets: &mut [u32; Record::MOST])
             depth = depth + 1;
             place = next_place;
         } else if kind == script::ELSE {
-            // The jump waits in place of its test.
+            // The target of the test is known. Now the target of the jump is missing.
             let test = waiting[depth - 1];
             targets[test] = next_place;
             waiting[depth - 1] = k;
             place = next_place;
         } else {
+            // An end.
             depth = depth - 1;
             let start = starts[depth];
             let opened = waiting[depth];
@@ -97,7 +100,7 @@ fn fill_targets(script: &[u8], count: usize, targets: &mut [u32; Record::MOST])
     }
 }
 
-// ---- the words
+// ---- words
 
 fn word(kind: u32, width: u32, port: u32, target: u32, value: u32) -> Record
     ensures { λ r. ⌜ r ≡ word kind width port target value ⌝ }
@@ -112,7 +115,7 @@ fn word(kind: u32, width: u32, port: u32, target: u32, value: u32) -> Record
     }
 }
 
-// The kind of a record's word.
+// The word kind of a record kind.
 fn word_kind(kind: u32) -> u32
     ensures { λ r. ⌜ r ≡ wordKind kind ⌝ }
 {
@@ -128,7 +131,7 @@ fn word_kind(kind: u32) -> u32
     kind
 }
 
-// The end of an if gives no word, and has no target.
+// Every record becomes a word, except the end of an if. The target of a loop end is never 0, so 0 marks the end of an if.
 fn emits_word(target: u32, kind: u32) -> bool
     ensures { λ r. ⌜ r ≡ emitsWord target kind ⌝ }
 {
@@ -138,9 +141,9 @@ fn emits_word(target: u32, kind: u32) -> bool
     true
 }
 
-// ---- the image
+// ---- image
 
-// Writes a word into the part of the image that starts at the word's offset.
+// Writes a word at its place in the image.
 fn put(image: &mut [u8], place: u32, w: Record)
     requires { ⌜ (recordSize * place + recordSize ≤ length (now image)) × (place ≤ mostRecords) ⌝ }
     ensures { λ _. ⌜ now (image .exit) ≡ take (recordSize * place) (now (image .entry)) ++ (bytesOf w ++ drop recordSize (drop (recordSize * place) (now (image .entry)))) ⌝ }
@@ -149,7 +152,7 @@ fn put(image: &mut [u8], place: u32, w: Record)
     record::write(&mut image[at..], w);
 }
 
-// Where the word at `place` starts.
+// The byte offset of the word at `place`.
 fn offset(place: u32) -> usize
     ensures { λ r. ⌜ r ≡ recordSize * place ⌝ }
 {
@@ -162,7 +165,7 @@ fn index(place: u32) -> usize
     place as usize
 }
 
-// Writes the words of a script that is accepted.
+// Writes the words of an accepted script to an image buffer that is long enough for them.
 fn emit(script: &[u8], count: usize, image: &mut [u8])
     requires { ⌜ (count ≡ length (now script) / recordSize) × (scriptRefusal (now script) .number ≡ 0) ⌝ }
     requires { ⌜ recordSize * length (wordsOf (now script)) ≤ length (now image) ⌝ }
@@ -178,7 +181,7 @@ fn emit(script: &[u8], count: usize, image: &mut [u8])
         let next = k + 1;
         if emits_word(target, r.kind) {
             let kind = word_kind(r.kind);
-            // A field that the record does not use is 0, and so it is in the word.
+            // Fields that the record does not use are 0, so the word can copy them.
             put(image, place, word(kind, r.width, r.port, target, r.value));
             place = place + 1;
         }
@@ -187,14 +190,14 @@ fn emit(script: &[u8], count: usize, image: &mut [u8])
     put(image, place, word(HALT, 0, 0, 0, 0));
 }
 
-// Refusal 9: a buffer of `length` bytes does not hold so many words.
+// Refusal 9: a buffer of `length` bytes is too short for this many words.
 fn too_short(length: usize, words: u32) -> bool
     ensures { λ r. ⌜ r ≡ ltb length (recordSize * words) ⌝ }
 {
     length < offset(words)
 }
 
-// The compiler. No byte of the image is written before the script is accepted and its words fit.
+// Compiles a script. Writes nothing to the image unless the script is accepted and its words fit.
 pub fn compile(script: &[u8], image: &mut [u8]) -> CompileResult
     ensures { λ r. ⌜ (r ≡ compileResult (now (script .entry)) (now (image .entry))) × (now (image .exit) ≡ imageAfter (now (script .entry)) (now (image .entry))) ⌝ }
 {
@@ -210,7 +213,7 @@ pub fn compile(script: &[u8], image: &mut [u8]) -> CompileResult
     if too_short(image.len(), found.words) {
         return CompileResult {
             refusal: outcome::BUFFER_TOO_SHORT,
-            place: (count % 4096) as u32, // at most 1,024: the remainder only bounds it for the cast
+            place: (count % 4096) as u32, // At most 1,024. The remainder only bounds it for the cast.
             words: 0,
         };
     }

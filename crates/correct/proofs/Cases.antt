@@ -1,5 +1,4 @@
--- Document 01's cases hold, all of the list at once: each is a closed test, so that the definitions compute it to true.
--- Assumes nothing.
+-- The cases P1 to P11 hold, all in one statement. Each is a test without variables, so the definitions compute it to true.
 use mathlib.Core.Path.{_≡_, refl}
 use mathlib.Core.Bool.{true}
 use Rattle.access.specs.Status.{readGives}

@@ -1,5 +1,5 @@
--- The whole run of a compiled script: it halts on its last word, with the world and the steps of the script's own run; and
--- the call refuses nothing of it. Assumes nothing.
+-- The whole run of a compiled script: `run` does not refuse it (`none-refused`), and it halts on its last word, with the
+-- world and the steps of the script's own run (`whole-run`).
 use Prim.Native.Nat.{ℕ, suc, _-_, _*_, _%_, _≤_, _<_}
 use mathlib.Core.Path.{_≡_, refl, sym, ap, _∙_}
 use mathlib.Core.Bool.{true, false}
@@ -34,7 +34,7 @@ use Rattle.correct.proofs.Simulation.{simulates}
 use Rattle.correct.proofs.Steps.{step-halt}
 use Rattle.correct.proofs.Words.{At, all-fit, halt-fits, image-words, lies, lies-after}
 
--- ---- the words written are the script's
+-- ---- the words written are those of the script
 module _ (script buffer : List ℕ) (accepted : compileResult script buffer .refusal ≡ 0) where
   pub words-counted : compileResult script buffer .words ≡ wordsIn script
   unfolding compileResult
@@ -53,7 +53,7 @@ module _ (script buffer : List ℕ) (accepted : compileResult script buffer .ref
       ∙ take-at (imageBytes (wordsOf script)) (drop (12 * wordsIn script) buffer) (12 * compileResult script buffer .words)
       (image-length (wordsOf script) ∙ ap (λ (n : ℕ). 12 * n) (sym words-are))
 
--- ---- the run of a body's words and a halt
+-- ---- the run of the words of a body and a halt
 module _ (b : Body) (loops : loopsWithin 0 b) (fields : fieldsWithin b) (ports : portsWithin b) (few : placeAfter 0 b < 1024) where
   abbrev words : List Record
   words = emit 0 b (halt ∷ [])
@@ -77,7 +77,7 @@ module _ (b : Body) (loops : loopsWithin 0 b) (fields : fieldsWithin b) (ports :
       halts-there (simulates image room b 0 [] r (halt ∷ []) at inside loops fields g)
       (step-halt image room (placeAfter 0 b) [] (ownRun b r .world) inside (stop .0)) budget (omega arith)
 
--- ---- the call
+-- ---- the call of `run`
 pub fresh-in-range : sequencerInRange freshSequencer ≡ true
 unfolding sequencerInRange
 fresh-in-range = refl
@@ -96,7 +96,7 @@ refuses-none :
 unfolding runRefusal
 refuses-none image d events good inRange all = rw (good, inRange, fresh-in-range, all)
 
--- the words of an accepted script: its body's and the halt, and no more than 1,024
+-- an accepted script has the words of its body and the halt, at most 1,024
 pub words-many :
     (script : List ℕ) → scriptRefusal script .number ≡ 0
     → (length (wordsOf script) ≡ suc (placeAfter 0 (scriptBody script))) × (length (wordsOf script) ≤ 1024)
@@ -107,6 +107,7 @@ words-many script z =
     let k = emit-length (scriptBody script) 0 (halt ∷ []) in
     (omega arith, omega arith)
 
+-- `run` does not refuse a compiled image, with a valid device and a good event list
 pub none-refused :
     (script buffer : List ℕ) (d : Device) (events : List ℕ) → compileResult script buffer .refusal ≡ 0 → deviceInRange d ≡ true
     → eventsRefusal events .number ≡ 0 → runRefusal (wordsWritten script buffer) d freshSequencer events .number ≡ 0
@@ -115,6 +116,7 @@ none-refused script buffer d events accepted inRange all =
     refuses-none (wordsWritten script buffer) d events
     (ap badImage (written-are script buffer accepted) ∙ good-image (wordsOf script) (omega arith) (omega arith)) inRange all
 
+-- the run of the words written halts on the last word, with the world and the steps of the script's own run
 pub whole-run :
     (script buffer : List ℕ) (d : Device) (events : List ℕ) (budget : ℕ) (log : List ℕ) → Bytes script
     → compileResult script buffer .refusal ≡ 0 → length (scriptRun script d events .world .logged) ≤ length log

@@ -1,5 +1,5 @@
--- Demand 3 holds: the compiled image does exactly what the nested script says, and the compiler refuses exactly what it
--- must. Assumes nothing.
+-- The proof of the top theorem. The run comes from `whole-run`, the nested form of the records from `reading-flat`, and the
+-- refusals from `refuses-not` and `accepts-all`.
 use mathlib.Core.Path.{refl, ap, _∙_}
 use lib.ListN.{length}
 use Rattle.compiler.proofs.Compiling.{accepts-all, refuses-not}

@@ -1,4 +1,4 @@
--- A log that is filled from its front, and the events behind so many. Assumes nothing.
+-- The filled part and the rest of a log after a run, and the events left after the number taken.
 use Prim.Native.Nat.{ℕ, zero, suc, _-_, _≤_}
 use mathlib.Core.Path.{_≡_, refl, sym, ap, _∙_}
 use mathlib.Core.List.{List, [], _∷_, _++_}
@@ -21,7 +21,7 @@ front values lent = take-front values (drop (length values) lent)
 pub rest : (values lent : List ℕ) → drop (length values) (logFilled values lent) ≡ drop (length values) lent
 rest values lent = drop-front values (drop (length values) lent)
 
--- the number of events taken leads to the events left
+-- dropping the number of events taken from the list gives the events left
 pub events-left :
     (events left : List ℕ) (n : ℕ) → left ≡ drop n events → drop (length events - length left) events ≡ left
 events-left events left n h = pick (decLe n (length events))

@@ -1,4 +1,5 @@
--- A run of an image follows its steps: from one machine to another, as many as the count goes up. Assumes nothing.
+-- Steps put together: if one machine reaches another in some steps, a run from the first is a run from the second with the
+-- rest of the budget.
 use Prim.Native.Nat.{ℕ, zero, suc, _+_, _-_, _≤_}
 use mathlib.Core.Path.{_≡_, ap, _∙_}
 use mathlib.Core.List.{List}
@@ -6,7 +7,7 @@ use native.Mathlib.Omega.{arith}
 use Rattle.sequencer.specs.Run.{runEnd, follow, runFrom}
 use Rattle.step.specs.Step.{Machine, goesOn, halts, nextStep}
 
--- from a machine, with so many steps made, to a machine, with so many; the counts are the run's own, so nothing is added up
+-- from one machine to another; the numbers are the steps counted so far at each of them
 pub data Reach (image : List ℕ) (room : ℕ) : ℕ → Machine → ℕ → Machine → Type 0 where
   here : {s : ℕ} {m : Machine} → Reach image room s m s m
   step : {s t : ℕ} {m n o : Machine} → nextStep image room m ≡ goesOn n → Reach image room (suc s) n t o
@@ -22,7 +23,7 @@ module _ {image : List ℕ} {room : ℕ} where
   steps-grow here = omega arith
   steps-grow (step h p) = let i = steps-grow p in omega arith
 
-  -- what is left of the budget goes down as the steps go up
+  -- the run from the first machine is the run from the second; each step takes 1 from the budget
   pub follows : {s t : ℕ} {m n : Machine} → Reach image room s m t n → (before after : ℕ) → before + s ≡ after + t
       → runFrom image room before s m ≡ runFrom image room after t n
   follows {s} {m = m} here before after e =
@@ -30,7 +31,7 @@ module _ {image : List ℕ} {room : ℕ} where
   follows (step h p) zero after e = let i = steps-grow p in absurd (omega arith)
   follows (step h p) (suc before) after e = rw h (follows p before after (omega arith))
 
-  -- a run that reaches a halt in its budget
+  -- a run that reaches a halt within its budget ends there
   pub halts-there : {s t : ℕ} {m n : Machine} → Reach image room s m t n → nextStep image room n ≡ halts → (budget : ℕ)
       → suc t ≤ budget + s
       → runFrom image room budget s m ≡ runEnd 0 (suc t) n

@@ -1,5 +1,4 @@
--- The script's own run only adds to the log, so that room for its last log is room for every log before it.
--- Assumes nothing.
+-- The script's own run only adds to the log. So a log with room for all its values has room at every step.
 use Prim.Native.Nat.{ℕ, zero, suc, _≤_, _<_}
 use mathlib.Core.Bool.{Bool, true, false, cond}
 use mathlib.Core.List.{[], _∷_}
@@ -9,11 +8,11 @@ use Rattle.script.specs.Nested.{Body, done, write, read, delay, repeat, if, ifE
 use Rattle.semantics.specs.OwnRun.{Run, countStep, oneStep, ownRun, repeatTimes}
 use Rattle.semantics.specs.World.{afterDelay, afterRead, sharesOne, afterTest, valueRead, afterWrite}
 
--- values logged
+-- the number of values logged
 abbrev pub lines : Run → ℕ
 lines r = length (r .world .logged)
 
--- ---- what each action does to the log
+-- ---- one record
 write-lines : (p w v : ℕ) (r : Run) → lines r ≤ lines (oneStep (afterWrite p w v) r)
 unfolding afterWrite
 write-lines p w v r = omega (arith, length-append (r .world .logged) [])
@@ -30,7 +29,7 @@ test-lines : (p w : ℕ) (r : Run) → lines r ≤ lines (oneStep (afterTest p w
 unfolding afterTest
 test-lines p w r = omega (arith, length-append (r .world .logged) [])
 
--- ---- turns, branches and bodies
+-- ---- repeats, ifs and bodies
 pub repeat-times-grow : (n : ℕ) (f : Run → Run) → ((r : Run) → lines r ≤ lines (f r)) → (r : Run) → lines r ≤ lines (repeatTimes n f r)
 repeat-times-grow zero f h r = omega arith
 repeat-times-grow (suc n) f h r = let i = repeat-times-grow n f h (countStep (f r)) in let j = h r in omega arith

@@ -1,4 +1,5 @@
--- Compiling and running in one call: what the compiler and the run answer is what the script's own run tells. Assumes nothing.
+-- Compiling and running gives `wholeAnswer` and `wholeLog`. A refusal by the compiler is that of `wholeRefusal`. The run of
+-- an accepted script is its own run, by `whole-run`, if the log and the budget are large enough.
 use Prim.Native.Nat.{ℕ, _*_, _-_, _≤_}
 use mathlib.Core.Path.{_≡_, refl, sym, ap, _∙_}
 use mathlib.Core.Bool.{Bool, true, false, cond, not, _&&_}
@@ -27,7 +28,7 @@ use Rattle.correct.specs.CompilerCorrect.{Bytes, wordsWritten}
 use Rattle.correct.specs.CompileAndRun.{ownEnd, suffices, wholeAnswer, wholeEnd, wholeLog, wholeRefusal}
 use Rattle.correct.proofs.CompileAndRun.{fresh-in-range, good-image, whole-run, words-are, words-counted, words-many, written-are}
 
--- ---- a refusal of the compiler; 9 is none, since every script's words have room
+-- ---- a refusal by the compiler; it is never 9, because the buffer of 12,288 bytes is long enough for 1,024 words
 script-refused :
     (script buffer : List ℕ) → 12288 ≤ length buffer → (compileResult script buffer .refusal ≡ 0 → ⊥)
     → scriptRefusal script .number ≡ 0 → ⊥
@@ -56,7 +57,8 @@ compiler-refuses script buffer d events budget log c l e n =
     let k : eqb (wholeRefusal script d events .number) 0 ≡ false = rw w (ne-eqb (scriptRefusal script .number) 0 z) in
     (rw (e, k, w, compile-is-script script buffer z), rw k)
 
--- ---- a script that is accepted
+-- ---- an accepted script
+-- after compiling, `run` refuses exactly what `wholeRefusal` says
 same-refusal :
     (script buffer : List ℕ) (d : Device) (events : List ℕ) → compileResult script buffer .refusal ≡ 0
     → runRefusal (wordsWritten script buffer) d freshSequencer events ≡ wholeRefusal script d events
@@ -73,6 +75,7 @@ same-refusal script buffer d events accepted =
     judged true = refl
     judged false = refl
 
+-- the run of the image ends as `wholeEnd` says
 same-end :
     (script buffer : List ℕ) (d : Device) (events : List ℕ) (budget : ℕ) (log : List ℕ) → Bytes script
     → compileResult script buffer .refusal ≡ 0
@@ -92,6 +95,7 @@ same-end script buffer d events budget log bytes accepted =
     pick false h =
         ap (λ (image : List ℕ). imageRun image d freshSequencer events budget (length log)) (written-are script buffer accepted)
 
+-- so its answer and its log are `wholeAnswer` and `wholeLog`
 pub words-run :
     (script buffer : List ℕ) (d : Device) (events : List ℕ) (budget : ℕ) (log : List ℕ) → Bytes script
     → compileResult script buffer .refusal ≡ 0
@@ -103,7 +107,7 @@ words-run script buffer d events budget log bytes accepted =
     let e = same-end script buffer d events budget log bytes accepted in
     (rw (f, e), rw (f, e))
 
--- its words have room in the buffer
+-- its words fit into the buffer
 pub words-fit :
     (script buffer : List ℕ) → compileResult script buffer .refusal ≡ 0
     → (12 * compileResult script buffer .words ≤ length buffer) × (compileResult script buffer .words ≤ 1024)

@@ -1,4 +1,4 @@
--- The ports of a script's body are those of its records, and two bytes hold each. Assumes nothing.
+-- The ports in the body of a script are those of its records, so each is below 65,536.
 use Prim.Native.Nat.{ℕ, zero, suc, _+_, _*_, _<_}
 use mathlib.Core.Path.{_≡_, subst}
 use mathlib.Core.List.{List, [], _∷_}
@@ -32,7 +32,7 @@ ports-from : (n place : ℕ) (bytes : List ℕ) → Bytes bytes → Ports (recor
 ports-from zero place bytes h = tt
 ports-from (suc n) place bytes h = (record-port bytes (12 * place) h, ports-from n (suc place) bytes h)
 
--- the ports of a body laid flat, and of what follows it
+-- the ports of the records of a body and of those after it
 split : (b : Body) (rs : List Record) → Ports (flat b rs) → portsWithin b × Ports rs
 split done rs h = (tt, h)
 split (write p w v rest) rs h = let i = split rest rs (h .1) in ((h .0, i .0), i .1)

@@ -1,5 +1,6 @@
--- The words of a body do what the body's own run does, in as many steps: from the first of them, with any counters in use,
--- to the place behind them, with the same counters. Assumes nothing.
+-- The central step of the proof: the words of a body do what the body's own run does, in as many steps. They start at the
+-- first word with any counters in use, and end at the place after the last word with the same counters. By induction on the
+-- body.
 use Prim.Native.Nat.{ℕ, zero, suc, _≤_, _<_}
 use mathlib.Core.Path.{_≡_}
 use mathlib.Core.Bool.{Bool, true, false, cond}
@@ -20,13 +21,13 @@ use Rattle.correct.proofs.Grows.{grows, lines, read-lines, repeat-times
 use Rattle.correct.proofs.Steps.{step-again, step-delay, step-enter, step-jump, step-out, step-past, step-read, step-test, step-write}
 use Rattle.correct.proofs.Words.{At, lies-after}
 
--- from a place at which the own run stands here, to one at which it stands there
+-- the image gets from place at, when the own run is at r, to place at', when the own run is at r'
 abbrev pub Leads : List ℕ → ℕ → ℕ → List ℕ → Run → ℕ → List ℕ → Run → Type 0
 Leads image room at cs r at' cs' r' =
     Reach image room (r .steps) (machine at cs (r .world)) (r' .steps) (machine at' cs' (r' .world))
 
 module _ (image : List ℕ) (room : ℕ) where
-  -- the turns of a loop that is entered, given what its body does whatever its counter
+  -- the turns of a loop after its enter, given what its body does with any counter
   turning :
       (b : Body) (at : ℕ) (cs : List ℕ) → wordAt image (placeAfter (suc at) b) ≡ word 5 0 0 (suc at) 0
       → suc (placeAfter (suc at) b) < imageWords image
@@ -42,7 +43,7 @@ module _ (image : List ℕ) (room : ℕ) where
       (step (step-again image room _ cs _ (omega arith) (suc at) n e (omega (arith, after-from b (suc at))))
       (turning b at cs e l body n (countStep (ownRun b r)) g))
 
-  -- a loop, "0 jumps to target, else pushes value"
+  -- a whole loop. "4 enter (0 jumps to target, else pushes value)"
   looping :
       (b : Body) (at : ℕ) (cs : List ℕ) (n : ℕ) → wordAt image at ≡ word 4 0 0 (suc (placeAfter (suc at) b)) n
       → wordAt image (placeAfter (suc at) b) ≡ word 5 0 0 (suc at) 0 → suc (placeAfter (suc at) b) < imageWords image → n ≤ 65535
@@ -58,7 +59,7 @@ module _ (image : List ℕ) (room : ℕ) where
       (step-enter image room at cs (r .world) (omega (arith, after-from b (suc at))) (suc (placeAfter (suc at) b)) n a k l few)
       (turning b at cs e l body n (countStep r) g)
 
-  -- the part that a test takes, given what each does
+  -- the part that a test selects, given what both parts do
   branching :
       (t : Bool) (at at' past : ℕ) (cs : List ℕ) (r x y : Run) → (lines x ≤ room → Leads image room at cs r past cs x)
       → (lines y ≤ room → Leads image room at' cs r past cs y) → lines (cond t x y) ≤ room
@@ -66,8 +67,8 @@ module _ (image : List ℕ) (room : ℕ) where
   branching true at at' past cs r x y p q g = p g
   branching false at at' past cs r x y p q g = q g
 
-  -- h: its words lie here; l: the place behind them is one of the image; d: at most eight loops; f: its fields are good;
-  -- g: the log has room for all that its own run logs
+  -- h: the words of the body are in the image at this place; l: the place after them is in the image; d: repeats are nested at
+  -- most 8 deep; f: widths and values are legal; g: the log has room for all values of the own run
   pub simulates :
       (b : Body) (at : ℕ) (cs : List ℕ) (r : Run) (ws : List Record) → At image at (emit at b ws)
       → placeAfter at b < imageWords image → loopsWithin (length cs) b → fieldsWithin b → lines (ownRun b r) ≤ room

@@ -1,5 +1,5 @@
--- What one step of the sequencer does at each word that the compiler writes: it goes on, without a fault, if the place and
--- the target are places of the image. Assumes nothing.
+-- One step of the sequencer at each kind of word that the compiler writes: the word has no fault, and the step executes it,
+-- if the place and the target are in the image.
 use Prim.Native.Nat.{ℕ, zero, suc, _-_, _≤_, _<_}
 use mathlib.Core.Path.{_≡_, refl, _∙_}
 use mathlib.Core.Bool.{true, false, cond}
@@ -18,7 +18,7 @@ use Rattle.width.specs.Width.{fitsWidth, isWidth}
 not-zero : (n : ℕ) → eqb (suc n) 0 ≡ false
 not-zero n = ne-eqb (suc n) 0 (λ e. omega arith)
 
--- ---- no word that the compiler writes is at fault
+-- ---- no word that the compiler writes has a fault
 module _ (words room used logged : ℕ) where
   write-good : (w p v : ℕ) → isWidth w ≡ true → fitsWidth w v ≡ true → wordFault words room used logged (word 1 w p 0 v) ≡ 0
   unfolding wordFault badWord
@@ -55,7 +55,7 @@ module _ (words room used logged : ℕ) where
 
 -- ---- the step
 module _ (image : List ℕ) (room : ℕ) where
-  -- a word that is not at fault is taken
+  -- a word without a fault is executed, or halts
   takes :
       (r : Record) (m : Machine) → m .place < imageWords image → wordAt image (m .place) ≡ r
       → wordFault (imageWords image) room (length (m .counters)) (length (m .world .logged)) r ≡ 0

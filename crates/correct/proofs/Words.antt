@@ -1,5 +1,4 @@
--- Where the words of a body lie in the image that the compiler writes: read from their places, they are the words that were
--- written. Assumes nothing.
+-- The words of a body in the image: reading the image at their places returns the words that the compiler wrote (`lies`).
 use Prim.Native.Nat.{ℕ, suc, _*_, _≤_, _<_}
 use mathlib.Core.Path.{_≡_, refl, sym, ap, _∙_}
 use mathlib.Core.Bool.{Bool, true, false, cond, false≢true, _||_}
@@ -20,12 +19,12 @@ use Rattle.step.specs.Word.{imageWords, wordAt}
 use Rattle.width.specs.Width.{allOnes, fitsWidth, isWidth}
 use Rattle.correct.proofs.Ports.{portsWithin}
 
--- these words lie in the image from a place on
+-- the image has these words, starting at this place
 abbrev pub At : List ℕ → ℕ → List Record → Type 0
 At image place [] = Unit {0}
 At image place (w ∷ ws) = (wordAt image place ≡ w) × At image (suc place) ws
 
--- what follows a body lies behind it
+-- the words that follow a body are at the place after it
 pub lies-after : (image : List ℕ) (b : Body) (at : ℕ) (ws : List Record) → At image at (emit at b ws) → At image (placeAfter at b) ws
 lies-after image done at ws h = h
 lies-after image (write p w v rest) at ws h = lies-after image rest (suc at) ws (h .1)
@@ -44,7 +43,7 @@ lies-after image (ifElse p w m b c rest) at ws h =
     let i = lies-after image b (suc at) (word 7 0 0 past 0 ∷ emit middle c (emit past rest ws)) (h .1) in
     lies-after image rest past ws (lies-after image c middle (emit past rest ws) (i .1))
 
--- ---- the fields of every word fit their bytes
+-- ---- the fields of every word fit into their bytes
 abbrev AllFit : List Record → Type 0
 AllFit [] = Unit {0}
 AllFit (w ∷ ws) = Fits w × AllFit ws
@@ -70,7 +69,7 @@ fit : (k w p t v : ℕ) → k < 256 → w < 256 → p < 65536 → t < 65536 → 
 fit k w p t v hk hw hp ht hv =
     record { mark = omega arith; kind = hk; width = hw; port = hp; target = ht; value = hv }
 
--- a word of a kind that uses neither width nor port
+-- a word that uses neither width nor port
 bare : (k t v : ℕ) → k < 256 → t < 65536 → v ≤ 65535 → Fits (word k 0 0 t v)
 bare k t v hk ht hv = fit k 0 0 t v hk (omega arith) (omega arith) ht (omega arith)
 

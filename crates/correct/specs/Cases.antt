@@ -1,5 +1,6 @@
--- Document 01, "Cases to prove (P) and to run": "One statement over one list holds P1 to P11". Each case is a test over
--- the definitions: P1 to P9 on the fresh device with what the case names changed, P10 and P11 on a script.
+-- The cases P1 to P11 of the rules, as tests over the definitions: P1 to P9 on the fresh device with some registers changed,
+-- P10 and P11 on a script. "One statement over one list holds P1 to P11": `cases-hold` in proofs/Cases.antt.
+-- See docs/CHIP.md for the registers and the words.
 use Prim.Native.Nat.{ℕ, _+_, _*_, _^_}
 use mathlib.Core.Bool.{Bool, true, false, not, _&&_}
 use mathlib.Core.List.{List, [], _∷_, _++_}
@@ -36,31 +37,32 @@ use Rattle.semantics.specs.OwnRun.{scriptRun}
 use Rattle.sequencer.specs.Run.{imageRun}
 use Rattle.step.specs.Sequencer.{freshSequencer}
 
--- ---- accesses, events, and what is looked at afterwards
+-- ---- accesses, events and tests of answers
 abbrev reading : Device → ℕ → ℕ → AccessResult
 reading d w p = deviceAccess d (record { write = false; width = w; port = p; value = 0 })
 
 abbrev writing : Device → ℕ → ℕ → ℕ → AccessResult
 writing d w p v = deviceAccess d (record { write = true; width = w; port = p; value = v })
 
+-- the access has this status and this value
 abbrev answers : AccessResult → ℕ → ℕ → Bool
 answers r s v = eqb (r .answer .status) s && eqb (r .answer .value) v
 
 abbrev tick : Device → Device
 tick d = applyEvent d (1 * 2 ^ 24 + 1)
 
--- the fresh device with another block
+-- the fresh device with one block replaced
 abbrev configured : Config → Device
 configured g = withConfig freshDevice g
 
 abbrev powered : Acpi → Device
 powered a = withAcpi freshDevice a
 
--- ---- P1 fresh: 2Fh reads FFh, status 1
+-- ---- "P1 fresh: 2Fh reads FFh, status 1."
 unfoldable pub p1 : Bool
 p1 = answers (reading freshDevice 1 0x002F) 1 0xFF
 
--- ---- P2 key control 07h: write 00h is status 2; after PCI reset it is 04h
+-- ---- "P2 key control 07h: write 00h is status 2; after PCI reset it is 04h."
 abbrev locked : Device
 locked = configured (withControl (withIndex (withNumber (withUnlocked freshConfig true) 0x0A) 0xF2) 0x07)
 
@@ -71,8 +73,8 @@ p2 =
     && (eqb (writing locked 1 0x002F 0x00 .device .config .control) 0x07
     && eqb (applyEvent (writing locked 1 0x002F 0x00 .device) (6 * 2 ^ 24 + 0) .config .control) 0x04))
 
--- ---- P3 key base 0020h, active: 0020h is key byte 0, 002Eh configuration; the fresh key control is write-locked, so it
--- is 00h here
+-- ---- "P3 key base 0020h, active: 0020h is key byte 0, 002Eh configuration." Key control is 00h here, because its reset value
+-- sets the write-lock
 abbrev keyed : Device
 keyed = configured (withControl (withKeyBase (withActivate freshConfig 0x01) 0x0020) 0x00)
 
@@ -89,7 +91,7 @@ p3 =
     && (answers (reading (keyWrite .device) 1 0x0020) 0 0x5A
     && (answers indexWrite 0 0 && (indexWrite .device .config .unlocked && eqb (getD (indexWrite .device .key .bytes) 0x0E 0) 0))))
 
--- ---- P4 Lock set: 7Eh write status 2; 83h holding 03h, written 03h, becomes 00h
+-- ---- "P4 Lock set: 7Eh write status 2; 83h holding 03h, written 03h, becomes 00h."
 abbrev watched : Monitor → Device
 watched m = withMonitor (configured (withRuntimeBase (withActivate freshConfig 0x01) 0x0400)) m
 
@@ -97,7 +99,7 @@ watched m = withMonitor (configured (withRuntimeBase (withActivate freshConfig 0
 abbrev lockedMonitor : Device
 lockedMonitor = watched (stored (stored freshMonitor 0x40 0x02) 0x83 0x03)
 
--- a write of a monitor register: its index, then the data
+-- a write to a monitor register: the index, then the data
 abbrev monitorWrite : ℕ → ℕ → AccessResult
 monitorWrite i v = writing (writing lockedMonitor 1 0x0470 i .device) 1 0x0471 v
 
@@ -111,7 +113,7 @@ p4 =
     && (eqb (register (monitorWrite 0x83 0x03 .device .monitor) 0x83) 0x00
     && answers (reading (monitorWrite 0x83 0x03 .device) 1 0x0471) 0 0x00)))))
 
--- ---- P5 timer FFFFFFh, one tick: 0, TMR_STS set; 7FFFFFh, one tick: not set
+-- ---- "P5 timer FFFFFFh, one tick: 0, TMR_STS set; 7FFFFFh, one tick: not set."
 unfoldable pub p5 : Bool
 p5 =
     eqb (tick (powered (withTimer freshAcpi 0xFFFFFF)) .acpi .timer) 0
@@ -119,22 +121,22 @@ p5 =
     && (eqb (tick (powered (withTimer freshAcpi 0x7FFFFF)) .acpi .timer) 0x800000
     && not (hasBit 0x0001 (tick (powered (withTimer freshAcpi 0x7FFFFF)) .acpi .pm1sts))))
 
--- ---- P6 PM1a_STS 0101h, written 0100h: 0001h
+-- ---- "P6 PM1a_STS 0101h, written 0100h: 0001h."
 abbrev statusWrite : AccessResult
 statusWrite = writing (powered (withPm1sts freshAcpi 0x0101)) 2 0xAC08 0x0100
 
 unfoldable pub p6 : Bool
 p6 = answers statusWrite 0 0 && eqb (statusWrite .device .acpi .pm1sts) 0x0001
 
--- ---- P7 SETUP_IDX written 42h: status 5, index kept
+-- ---- "P7 SETUP_IDX written 42h: status 5, index kept."
 abbrev setupWrite : AccessResult
 setupWrite = writing (powered (withSetupidx freshAcpi 0x41)) 2 0xAC0E 0x42
 
 unfoldable pub p7 : Bool
 p7 = answers setupWrite 5 0 && eqb (setupWrite .device .acpi .setupidx) 0x41
 
--- ---- P8 P_LVL2 read with SCI on: CPU state 0
--- TMR_STS set and enabled: pending
+-- ---- "P8 P_LVL2 read with SCI on: CPU state 0."
+-- TMR_STS is set and enabled, so it is pending
 abbrev alarmed : Acpi
 alarmed = withPm1en (withPm1sts freshAcpi 0x0001) 0x0001
 
@@ -146,7 +148,7 @@ p8 =
     sciOn (sciDevice .acpi)
     && (answers (reading sciDevice 1 0xAC04) 0 0 && eqb (reading sciDevice 1 0xAC04 .device .acpi .cpu) 0)
 
--- ---- P9 sleep written with pending: awake, WAKE_STS set
+-- ---- "P9 sleep written with pending: awake, WAKE_STS set."
 abbrev sleepWrite : AccessResult
 sleepWrite = writing (powered alarmed) 2 0xAC0C 0x2000
 
@@ -156,7 +158,7 @@ p9 =
     && (answers sleepWrite 0 0
     && (not (sleepWrite .device .acpi .sleeping) && hasBit 0x8000 (sleepWrite .device .acpi .pm1sts)))
 
--- ---- scripts: their records' bytes, the words that they give, and both runs on the fresh device with no events
+-- ---- scripts: their bytes, their words, and their runs on the fresh device without events
 abbrev scriptRecord : (kind width port value : ℕ) → Record
 scriptRecord k w p v = record { mark = 0xA55A; kind = k; width = w; port = p; target = 0; value = v }
 
@@ -177,14 +179,14 @@ sameWords [] (b ∷ bs) = false
 sameWords (a ∷ ws) [] = false
 sameWords (a ∷ ws) (b ∷ bs) = sameWord a b && sameWords ws bs
 
--- the image halts in so many steps, and the script's own run has as many
+-- the image halts after n steps, and the script's own run has n steps
 abbrev stepsOf : List ℕ → ℕ → Bool
 stepsOf script n =
     eqb (imageRun (imageBytes (wordsOf script)) freshDevice freshSequencer [] 100 10 .outcome) 0
     && (eqb (imageRun (imageBytes (wordsOf script)) freshDevice freshSequencer [] 100 10 .steps) n
     && eqb (scriptRun script freshDevice [] .steps) n)
 
--- ---- P10 repeat 2, write, end: enter 2 to 3, write, loop end to 1, halt; 6 steps
+-- ---- "P10 repeat 2, write, end: enter 2 to 3, write, loop end to 1, halt; 6 steps."
 abbrev repeatScript : List ℕ
 repeatScript = scriptOf (scriptRecord 4 0 0 2 ∷ scriptRecord 1 1 0x002E 0x55 ∷ scriptRecord 7 0 0 0 ∷ [])
 
@@ -194,8 +196,8 @@ p10 =
     && (sameWords (wordsOf repeatScript) (word 4 0 0 3 2 ∷ word 1 1 0x002E 0 0x55 ∷ word 5 0 0 1 0 ∷ word 8 0 0 0 0 ∷ [])
     && stepsOf repeatScript 6)
 
--- ---- P11 if, read, else, read, end: test to 3, read, jump to 4, read, halt; 4 steps or 3. The fresh device reads FFh at
--- 2Fh, so a mask of 01h takes the first read, and 00h the second
+-- ---- "P11 if, read, else, read, end: test to 3, read, jump to 4, read, halt; 4 steps or 3." On the fresh device a read of 2Fh
+-- returns FFh, so mask 01h selects the first read and mask 00h the second
 abbrev ifScript : ℕ → List ℕ
 ifScript mask =
     scriptOf

@@ -1,4 +1,6 @@
--- Compiling and running in one call, told by the script's own run wherever the log and the budget hold it.
+-- Compiling and running in one call. If the log and the budget are large enough, the script's own run defines the answer;
+-- otherwise the run of its image does. `wholeAnswer` and `wholeLog` define the call `compile_and_run`.
+-- See docs/CHIP.md, "What a script means".
 use Prim.Native.Nat.{ℕ, _-_}
 use mathlib.Core.Bool.{Bool, cond, _&&_}
 use mathlib.Core.List.{List, []}
@@ -17,7 +19,7 @@ use Rattle.step.specs.Sequencer.{freshSequencer}
 use Rattle.step.specs.Step.{machine}
 use Rattle.sequencer.specs.declared.RunResult.{RunResult}
 
--- the compiler's refusals 1 to 8, then 11 for the device, then 12
+-- in this order: refusals 1 to 8 of the compiler, 11 for the device, 12
 unfoldable pub wholeRefusal : List ℕ → Device → List ℕ → Refusal
 wholeRefusal script d events =
     cond (eqb (scriptRefusal script .number) 0) (cond (deviceInRange d) (eventsRefusal events) (refusal 11 0))
@@ -27,11 +29,11 @@ wholeRefusal script d events =
 abbrev pub suffices : Run → (budget room : ℕ) → Bool
 suffices own budget room = leb (length (own .world .logged)) room && leb (own .steps) budget
 
--- the script's own run as an image's end: halted, on the last word, no counter in use
+-- the script's own run as the end of a run: halted, on the last word, with no counter in use
 abbrev pub ownEnd : List ℕ → Run → RunEnd
 ownEnd script own = runEnd 0 (own .steps) (machine (wordsIn script - 1) [] (own .world))
 
--- the script's own run; only where the log or the budget ends it before its end it is told by the words
+-- the script's own run or, if the log or the budget is too small for it, the run of the image
 unfoldable pub wholeEnd : List ℕ → Device → List ℕ → (budget room : ℕ) → RunEnd
 wholeEnd script d events budget room =
     cond (suffices (scriptRun script d events) budget room) (ownEnd script (scriptRun script d events))

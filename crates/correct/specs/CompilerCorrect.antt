@@ -1,5 +1,6 @@
--- Demand 3: the compiled image does exactly what the nested script says. One claim, over the bytes that the compiler writes
--- and the nested reading of the bytes that it was given; and the compiler refuses exactly what it must.
+-- The compiler is correct: the run of a compiled image is the script's own run, and the compiler refuses a script exactly when
+-- one of refusals 1 to 9 applies. The theorem is about the bytes of the script and the bytes that the compiler writes. Its proof
+-- is `compiler-correct` in proofs/CompilerCorrect.antt. See docs/CHIP.md, "What a script means".
 use Prim.Native.Nat.{ℕ, _*_, _-_, _≤_, _<_}
 use mathlib.Core.Path.{_≡_}
 use mathlib.Core.Logic.{_↔_}
@@ -18,7 +19,7 @@ use Rattle.sequencer.specs.Run.{RunEnd, eventsRefusal, imageRun, logAfter, runA
 use Rattle.step.specs.Sequencer.{freshSequencer}
 use Rattle.sequencer.specs.declared.RunResult.{RunResult}
 
--- a script is bytes: of a `&[u8]` that is a fact, so the call `compile_and_run` has no such premise
+-- every element is a byte; the type `&[u8]` ensures it, so `compile_and_run` does not require it
 abbrev pub Bytes : List ℕ → Type 0
 Bytes bs = (k : ℕ) → getD bs k 0 < 256
 
@@ -26,7 +27,8 @@ Bytes bs = (k : ℕ) → getD bs k 0 < 256
 abbrev pub wordsWritten : List ℕ → List ℕ → List ℕ
 wordsWritten script buffer = take (recordSize * compileResult script buffer .words) (imageAfter script buffer)
 
--- the script's own run beside what the run of its image answers, leaves in the log, and the accesses that it made
+-- the script's own run and the run of its image agree: `answer` is the answer of the run of the image, `image` its end, `log`
+-- the log after it and `lent` the log before it
 pub record SameRun (own : Run) (answer : RunResult) (image : RunEnd) (words : ℕ) (events lent log : List ℕ) : Type 0 where
   pub halted : answer .outcome ≡ 0
   pub onLastWord : answer .sequencer .place ≡ words - 1
@@ -39,8 +41,9 @@ pub record SameRun (own : Run) (answer : RunResult) (image : RunEnd) (words : �
   pub sameEventsLeft : drop (answer .taken) events ≡ own .world .events
   pub sameSteps : answer .steps ≡ own .steps
 
+-- the top theorem
 pub record CompilerCorrect : Type 0 where
-  -- the run of the words written is the script's own run, wherever the log and the budget hold it
+  -- the run of the words written is the script's own run, if the log and the budget are large enough for it
   pub sameRun :
       (script buffer : List ℕ) (d : Device) (events : List ℕ) (budget : ℕ) (log : List ℕ) → Bytes script
       → compileResult script buffer .refusal ≡ 0 → deviceInRange d ≡ true → eventsRefusal events .number ≡ 0
@@ -48,10 +51,10 @@ pub record CompilerCorrect : Type 0 where
       → SameRun (scriptRun script d events) (runAnswer (wordsWritten script buffer) d freshSequencer events budget log)
       (imageRun (wordsWritten script buffer) d freshSequencer events budget (length log)) (compileResult script buffer .words)
       events log (logAfter (wordsWritten script buffer) d freshSequencer events budget log)
-  -- the nested reading of an accepted script has its records, all of them and in their order
+  -- the nested form of an accepted script has all its records, in order
   pub sameRecords :
       (script : List ℕ) → scriptRefusal script .number ≡ 0 → recordsOf script ≡ flat (scriptBody script) []
-  -- the compiler takes a script exactly when none of refusals 1, 2 to 7 and 8 holds of it and the buffer holds its words
+  -- the compiler accepts a script exactly when refusals 1, 2 to 7 and 8 do not apply and the buffer is long enough for its words
   pub acceptedExactly :
       (script buffer : List ℕ)
       → (compileResult script buffer .refusal ≡ 0)

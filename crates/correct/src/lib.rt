@@ -1,5 +1,6 @@
-// A script compiled and run in one call. The rest of this crate is claims: document 01's cases and demand 3, in specs/ and
-// proofs/.
+// Compiles a script and runs it, in one call: `compile_and_run`. The programs `trace` and `replay` use it.
+// Besides, this crate has the top theorem, `CompilerCorrect`, and the cases P1 to P11 (specs/, proofs/).
+// See docs/CHIP.md, "Runs" and "What a script means".
 use device::Device;
 use record::Record;
 use sequencer::RunResult;
@@ -18,7 +19,7 @@ fn index(words: u32) -> usize
     words as usize
 }
 
-// Runs the first words of an image.
+// Runs the first `words` words of an image, with a fresh sequencer.
 fn run_words(
     image: &[u8],
     words: u32,
@@ -35,7 +36,7 @@ fn run_words(
     sequencer::run(&image[..end], device, fresh, events, budget, log)
 }
 
-// Compiles a script into a buffer where every script's words have room, and runs them.
+// Compiles a script into a buffer that is long enough for every image, and runs the image.
 fn run_script(
     script: &[u8],
     image: &mut [u8],
@@ -63,7 +64,7 @@ fn run_script(
     run_words(image, compiled.words, device, events, budget, log)
 }
 
-// Compiles a script and runs its words from a fresh sequencer. The image stays inside.
+// Compiles a script and runs its image with a fresh sequencer. The caller passes no image buffer.
 pub fn compile_and_run(
     script: &[u8],
     device: Device,

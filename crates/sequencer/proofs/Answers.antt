@@ -1,4 +1,4 @@
--- The run's answer and log from what the code has at its two ends: a refusal, or the end of the words. Assumes nothing.
+-- `runAnswer` and `logAfter` at the two returns of `run`: after a refusal, and after `run_words`.
 use Prim.Native.Nat.{ℕ, _%_, _≤_}
 use mathlib.Core.Path.{_≡_, refl, ap, sym, _∙_}
 use mathlib.Core.Bool.{Bool, true, false, cond, not, _&&_}
@@ -29,6 +29,7 @@ use Rattle.outcome.specs.declared.Refusal.{Refusal}
 use Rattle.step.specs.declared.Sequencer.{Sequencer}
 use Rattle.step.proofs.Faults.{or-right}
 
+-- a refusal is the answer, and the log is unchanged
 pub refused :
     (image : List ℕ) (d : Device) (s : Sequencer) (events : List ℕ) (budget : ℕ) (log : List ℕ) (f : Refusal)
     → f ≡ runRefusal image d s events → (f .number ≡ 0 → ⊥)
@@ -44,6 +45,7 @@ pub not-refused :
     → f ≡ runRefusal image d s events → f .number ≡ 0 → runRefusal image d s events .number ≡ 0
 not-refused image d s events f e z = sym (ap (λ (x : Refusal). x .number) e) ∙ z
 
+-- without a refusal, the end of `run_words` is the answer
 pub done :
     (image : List ℕ) (d : Device) (s : Sequencer) (events : List ℕ) (budget : ℕ) (log log' : List ℕ) (r : RunResult)
     → runRefusal image d s events .number ≡ 0
@@ -54,7 +56,7 @@ done image d s events budget log log' r z h =
     let k = eq-eqb (runRefusal image d s events .number) 0 z in
     (rw k (h .answered), rw k (h .lines))
 
--- what a run that is not refused starts from
+-- what holds at the start of a run that is not refused
 pub record Allowed (image : List ℕ) (d : Device) (s : Sequencer) (events : List ℕ) : Type 0 where
   pub image-good : badImage image ≡ false
   pub device-good : deviceInRange d ≡ true

@@ -1,4 +1,4 @@
--- The first bad event, looked for from a place on. Assumes nothing.
+-- The search for the first bad event, from index k: it is here, it is further on, or there is none.
 use Prim.Native.Nat.{ℕ, _+_, _≤_, _<_}
 use mathlib.Core.Path.{_≡_}
 use mathlib.Core.Bool.{true, false}

@@ -1,4 +1,6 @@
--- A run on its way: the state holds a machine from which the rest of the run is the whole run's end. Assumes nothing.
+-- The loop invariant of `run_words`: the state of the code represents a machine, and the run from this machine with the rest
+-- of the budget ends as the whole run does. It holds at the start, each executed word keeps it, and it gives the answer at
+-- each ending.
 use Prim.Native.Nat.{ℕ, suc, _+_, _-_, _*_, _≤_, _<_}
 use mathlib.Core.Path.{_≡_, refl, ap, sym, _∙_}
 use mathlib.Core.List.{List}
@@ -28,6 +30,7 @@ pub record LoopInvariant (image : List ℕ) (whole : RunEnd) (events lent : List
   pub within : steps ≤ budget
   pub same : length log ≡ length lent
 
+-- it holds at the start of the run
 pub starts :
     (image : List ℕ) (d : Device) (s : Sequencer) (events lent : List ℕ) (budget : ℕ) (x : Position) (cs : List ℕ) → Starts s x
     → cs ≡ counterArray (countersOf s)
@@ -44,8 +47,8 @@ starts image d s events lent budget x cs h q =
       same = refl;
     })
 
--- ---- how a run ends
--- the code's answer is that of the machine which its state holds
+-- ---- the endings
+-- the answer of the code is that of the machine that its state represents
 ends :
     {x : RunState} {events lent log : List ℕ} {m : Machine} (outcome steps : ℕ) (whole : RunEnd) (r : RunResult)
     → Represents x events lent log m → whole ≡ runEnd outcome steps m → r ≡ answer outcome steps x
@@ -68,6 +71,7 @@ spent {image} {whole} {events} {lent} {budget} {log} {x} {steps} r g l e =
     let z : budget - steps ≡ 0 = omega (arith, l) in
     ends 19 steps whole r (g .holds) (rw z at (g .rest)) e
 
+-- the whole run ends as the next step and the rest of the run do
 one-step :
     {image : List ℕ} {whole : RunEnd} {events lent : List ℕ} {budget : ℕ} {log : List ℕ} {x : RunState} {steps : ℕ}
     (g : LoopInvariant image whole events lent budget log x steps) → steps < budget
@@ -87,7 +91,7 @@ place-beyond {image} {whole} {events} {lent} {budget} {log} {x} {steps} r g l b 
     let t = le-leb (imageWords image) (g .machine .place) (rw (g .holds .place) at b) in
     ends 21 steps whole r (g .holds) (rw t at (one-step g l)) e
 
--- the word that the code reads, and its fault
+-- ---- the word at the place, and its fault, as the code has them
 pub record Looked (image : List ℕ) (log : List ℕ) (x : RunState) (word : Record) (fault : ℕ) : Type 0 where
   pub there : x .place < imageWords image
   pub word-is : word ≡ wordAt image (x .place)
@@ -103,6 +107,7 @@ looked {image} there read at-is fault-is = record {
   fault-is = fault-is;
 }
 
+-- the next step of the machine is the step of this word
 step-is :
     {image : List ℕ} {whole : RunEnd} {events lent : List ℕ} {budget : ℕ} {log : List ℕ} {x : RunState} {steps : ℕ}
     (g : LoopInvariant image whole events lent budget log x steps) {word : Record} {fault : ℕ} → Looked image log x word fault
@@ -116,6 +121,7 @@ step-is {image} {whole} {events} {lent} {budget} {log} {x} {steps} g {word} {fau
     sym (k .fault-is ∙ rw (sym w, g .same, h .used, h .logged)) in
     rw (a, f, w)
 
+-- a fault ends the run
 pub faulted :
     {image : List ℕ} {whole : RunEnd} {events lent : List ℕ} {budget : ℕ} {log : List ℕ} {x : RunState} {steps : ℕ} (r : RunResult)
     {word : Record} {fault : ℕ} → LoopInvariant image whole events lent budget log x steps → steps < budget
@@ -123,6 +129,7 @@ pub faulted :
 faulted {image} {whole} {events} {lent} {budget} {log} {x} {steps} r {word} {fault} g l k n e =
     ends fault steps whole r (g .holds) (rw (step-is g k, ne-eqb fault 0 n) at (one-step g l)) e
 
+-- a halt ends the run and counts a step
 pub halted :
     {image : List ℕ} {whole : RunEnd} {events lent : List ℕ} {budget : ℕ} {log : List ℕ} {x : RunState} {steps : ℕ} (r : RunResult)
     {word : Record} {fault : ℕ} → LoopInvariant image whole events lent budget log x steps → steps < budget
@@ -132,6 +139,7 @@ halted {image} {whole} {events} {lent} {budget} {log} {x} {steps} r {word} {faul
     ends 0 (suc steps) whole r (g .holds) (rw (step-is g k, eq-eqb fault 0 z, h) at (one-step g l))
     (e ∙ ap (λ (n : ℕ). answer 0 n x) (add-one steps))
 
+-- a word that neither faults nor halts keeps the invariant
 pub further :
     {image : List ℕ} {whole : RunEnd} {events lent : List ℕ} {budget : ℕ} {log : List ℕ} {x : RunState} {steps : ℕ}
     {word : Record} {fault : ℕ} (y : RunState) (log' : List ℕ) → LoopInvariant image whole events lent budget log x steps

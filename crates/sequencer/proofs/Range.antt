@@ -1,5 +1,6 @@
--- A run hands back a device and a sequencer in range if it was given such, never makes more steps than its budget, never logs
--- more values than the log has room for, and stopped by its budget goes on as if it had not been stopped. Assumes nothing.
+-- What every run keeps to: it returns a valid device and sequencer if it gets valid ones, makes at most as many steps as its
+-- budget, and logs at most as many values as the log has room for. A run that has spent its budget can be resumed as if it
+-- had not stopped.
 use Prim.Native.Nat.{ℕ, zero, suc, _+_, _-_, _≤_}
 use mathlib.Core.Path.{_≡_, refl}
 use mathlib.Core.Bool.{Bool, true, false, cond}
@@ -56,8 +57,8 @@ use Rattle.step.proofs.EachKind.{room-left}
 use Rattle.step.proofs.Faults.{Clean, clean, enter-room, enter-value, read-room}
 use Rattle.step.proofs.CounterArray.{AllCount, counters-in-range, array-in-range, used-few, used-length}
 
--- ---- what every step keeps, a run keeps
--- a step that goes on is what a word without a fault does
+-- ---- a property that every step keeps holds at the end of a run
+-- a step that does not end the run executes a word without a fault
 pub goes-on :
     (image : List ℕ) (room : ℕ) (m n : Machine) → nextStep image room m ≡ goesOn n
     → (faultAt image room m ≡ 0) × (execute (wordAt image (m .place)) m ≡ n)
@@ -75,7 +76,7 @@ goes-on image room m n h =
     pick false true true q z = let y : _≡_ {A = ℕ} 0 1 = cc in absurd (omega arith)
     pick false true false q z = (eqb-true (faultAt image room m) 0 q, cc)
 
--- every word without a fault keeps it, in a log of so much room
+-- every word without a fault keeps P, if the log has this room
 abbrev pub Keeps : (room : ℕ) → (Machine → Type 0) → Type 0
 Keeps room P =
     (words : ℕ) (r : Record) (m : Machine) → Clean words room (length (m .counters)) (length (m .world .logged)) r → P m
@@ -111,13 +112,13 @@ answered-in-range :
 answered-in-range w x h =
     access-in-range (afterNextEvent (w .device) (w .events)) x (applied-in-range (w .device) (w .events) h)
 
--- ---- the machine
+-- ---- the device and the counters
 pub record MachineInRange (m : Machine) : Type 0 where
   pub device : deviceInRange (m .world .device) ≡ true
   pub few : length (m .counters) ≤ 8
   pub counters : AllCount (m .counters)
 
--- a word that leaves the counters alone
+-- a word that does not change the counters
 counters-kept :
     {m : Machine} (p : ℕ) (w : World) → MachineInRange m → deviceInRange (w .device) ≡ true
     → MachineInRange (machine p (m .counters) w)
@@ -169,7 +170,7 @@ execute-in-range room words r m c h =
     (branch P (eqb (r .kind) 6) (counters-kept _ _ h (answered-in-range w read (h .device)))
     (counters-kept (r .target) w h (h .device)))))))
 
--- ---- what a run hands back
+-- ---- the answer of a run
 abbrev startMachine : Device → Sequencer → List ℕ → Machine
 startMachine d s events = machine (s .place) (countersOf s) (startWorld d events)
 
@@ -189,6 +190,7 @@ answer-in-range : (events : List ℕ) (e : RunEnd) → MachineInRange (e .machin
 answer-in-range events e h =
     (h .device, array-in-range (e .machine .place) (e .machine .counters) (h .few) (h .counters))
 
+-- a run that gets a valid device and a valid sequencer returns valid ones
 pub run-in-range :
     (image : List ℕ) (d : Device) (s : Sequencer) (events : List ℕ) (budget : ℕ) (log : List ℕ) → deviceInRange d ≡ true
     → sequencerInRange s ≡ true
@@ -202,7 +204,7 @@ run-in-range image d s events budget log h k =
     (start-in-range d s events h k)))
     (h, k)
 
--- ---- the steps
+-- ---- the number of steps
 follow-within :
     (rest : Machine → RunEnd) (left steps : ℕ) (m : Machine) → ((n : Machine) → rest n .steps ≤ suc steps + left)
     → (s : Step) → follow rest steps m s .steps ≤ steps + suc left
@@ -217,14 +219,14 @@ steps-within image room (suc left) steps m =
     follow-within (runFrom image room left (suc steps)) left steps m (λ n. steps-within image room left (suc steps) n)
     (nextStep image room m)
 
--- "bounded by the lent budget"
+-- "Steps in the run's result, [..] bounded by the lent budget."
 pub run-steps-within :
     (image : List ℕ) (d : Device) (s : Sequencer) (events : List ℕ) (budget room : ℕ)
     → imageRun image d s events budget room .steps ≤ budget
 unfolding imageRun
 run-steps-within image d s events budget room = omega (arith, steps-within image room budget 0 (startMachine d s events))
 
--- ---- the log
+-- ---- the number of values logged
 abbrev LogsWithin : (room : ℕ) → Machine → Type 0
 LogsWithin room m = length (m .world .logged) ≤ room
 
@@ -244,6 +246,7 @@ execute-logs room words r m c h =
     (branch P (eqb (r .kind) 5) (branch P (eqb (innermost (m .counters) - 1) 0) h h)
     (branch P (eqb (r .kind) 6) none h)))))
 
+-- a run never logs more values than the log has room for
 pub never-logs-beyond :
     (image : List ℕ) (d : Device) (s : Sequencer) (events : List ℕ) (budget room : ℕ)
     → length (imageRun image d s events budget room .machine .world .logged) ≤ room
@@ -251,8 +254,8 @@ unfolding imageRun
 never-logs-beyond image d s events budget room =
     run-from-keeps image room (LogsWithin room) (execute-logs room) budget 0 (startMachine d s events) (omega arith)
 
--- ---- a run in two
--- no word's fault is 19
+-- ---- a run in two parts
+-- the fault of a word is never 19
 abbrev Not19 : ℕ → Type 0
 Not19 n = n ≡ 19 → ⊥
 
@@ -265,7 +268,7 @@ fault-not-19 words room used logged r =
     (branch Not19 (noCounter used r) (λ e. omega (arith, e))
     (branch Not19 (logFull room logged r) (λ e. omega (arith, e)) (λ e. omega (arith, e))))))
 
--- nor a step's
+-- nor is that of a step
 abbrev NotSpent : Step → Type 0
 NotSpent s = (f : ℕ) → s ≡ faults f → Not19 f
 
@@ -280,7 +283,7 @@ step-not-19 image room m =
     let y : faultAt image room m ≡ 19 = cc in
     fault-not-19 (imageWords image) room (length (m .counters)) (length (m .world .logged)) (wordAt image (m .place)) y))
 
--- "A run may start from a stopped state": what the budget stopped goes on as if it had been larger
+-- "A run may start from a stopped state."; a run with budget a, resumed with budget b, is one run with budget a + b
 pub run-in-two :
     (image : List ℕ) (room a b steps : ℕ) (m : Machine) → runFrom image room a steps m .outcome ≡ 19
     → runFrom image room (a + b) steps m ≡ runFrom image room b (steps + a) (runFrom image room a steps m .machine)

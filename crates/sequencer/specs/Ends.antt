@@ -1,4 +1,5 @@
--- The start and the end of a run, as the code has them.
+-- The state of the code at the start and at the end of a run. Only contracts inside this crate, and their proofs, use this
+-- file.
 use Prim.Native.Nat.{ℕ}
 use mathlib.Core.Path.{_≡_}
 use mathlib.Core.List.{List}
@@ -12,11 +13,13 @@ use Rattle.semantics.specs.World.{startWorld}
 use Rattle.sequencer.specs.Run.{RunEnd, runResult}
 use Rattle.sequencer.specs.declared.RunResult.{RunResult}
 
+-- x is the position at the start of a run from s, with any device, event list and log
 abbrev pub Starts : Sequencer → Position → Type 0
 Starts s x =
     (d : Device) (events lent : List ℕ)
     → Represents (runState d x (counterArray (countersOf s))) events lent lent (machine (s .place) (countersOf s) (startWorld d events))
 
+-- the answer of the code from state x
 abbrev pub answer : (outcome steps : ℕ) → RunState → RunResult
 answer outcome steps x = record {
   outcome = outcome;
@@ -28,7 +31,7 @@ answer outcome steps x = record {
   device = x .device;
 }
 
--- the answer of a run, and the log behind it
+-- the answer r, and the log log' after the run, are those of the end e
 pub record EndsAs (events log log' : List ℕ) (r : RunResult) (e : RunEnd) : Type 0 where
   pub answered : r ≡ runResult events e
   pub lines : log' ≡ logFilled (e .machine .world .logged) log

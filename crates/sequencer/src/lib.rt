@@ -1,4 +1,5 @@
-// The sequencer: runs an image on a device.
+// The sequencer: `run` runs an image on a device until it halts, faults or has spent its budget. `correct`, `runnelopal` and
+// `replay` call it. What one word does is in `step`. See docs/CHIP.md, "Runs" and "Refusals".
 use access::Answer;
 use device::AccessResult;
 use device::Device;
@@ -29,7 +30,7 @@ ghost use Rattle.step.specs.Word.{imageWords};
 ghost use Rattle.step.specs.Represents.{runState};
 ghost use Rattle.sequencer.specs.Ends.{Starts, EndsAs, answer};
 
-// The answer to a run: the outcome is how it ended, or a refusal's number with its place.
+// The answer of a run. `outcome` is the ending or the number of a refusal, `place` the place of a refusal, 0 for an ending.
 pub struct RunResult {
     pub outcome: u32,
     pub place: u32,
@@ -42,10 +43,10 @@ pub struct RunResult {
 
 const MOST_EVENTS: usize = 4096;
 
-// The place of refusal 12 when there are more events.
+// The place of refusal 12 for a list with more events.
 const TOO_MANY_EVENTS_PLACE: u32 = MOST_EVENTS as u32;
 
-// Is an outcome a refusal's number, and no run's ending?
+// Whether an outcome is the number of a refusal, and not an ending.
 pub fn is_refusal(outcome: u32) -> bool
     ensures { λ r. ⌜ r ≡ isRefusal outcome ⌝ }
 {
@@ -55,7 +56,7 @@ pub fn is_refusal(outcome: u32) -> bool
     outcome < outcome::BUDGET_SPENT
 }
 
-// ---- the refusals
+// ---- refusals
 
 fn bad_image(image: &[u8]) -> bool
     ensures { λ r. ⌜ r ≡ badImage (now (image .entry)) ⌝ }
@@ -123,7 +124,7 @@ fn run_refusal(image: &[u8], device: Device, sequencer: Sequencer, events: &[u32
 
 // ---- the run
 
-// Where a run starts.
+// The position at the start of a run.
 fn start(sequencer: Sequencer) -> Position
     requires { ⌜ sequencerInRange sequencer ≡ true ⌝ }
     ensures { λ r. ⌜ Starts sequencer r ⌝ }
@@ -136,7 +137,7 @@ fn start(sequencer: Sequencer) -> Position
     }
 }
 
-// The counters, in an array of the run's own.
+// A copy of the counters. The run changes the copy.
 fn counters_of(sequencer: Sequencer) -> [u32; COUNTERS]
     requires { ⌜ sequencerInRange sequencer ≡ true ⌝ }
     ensures { λ r. ⌜ r ≡ counterArray (countersOf sequencer) ⌝ }
@@ -185,7 +186,7 @@ fn index(place: u32) -> usize
     place as usize
 }
 
-// One word executed.
+// Counts one executed word.
 fn count_step(steps: u32) -> u32
     requires { ⌜ steps < 4294967295 ⌝ }
     ensures { λ r. ⌜ r ≡ steps + 1 ⌝ }
@@ -193,8 +194,8 @@ fn count_step(steps: u32) -> u32
     steps + 1
 }
 
-// Runs the words of an image until the run ends. `last` is the device with the answer of its last access: one local for both is
-// copied once for each access.
+// Runs the words of an image until the run ends. The device and the answer of its last access are one local, `last`, so that
+// each access copies the device only once.
 fn run_words(
     image: &[u8],
     device: Device,
@@ -238,7 +239,7 @@ fn run_words(
             x.place = x.place + 1;
             steps = count_step(steps);
         } else {
-            // The next event, if there is one, comes first.
+            // The next event, if there is one, is applied before the access.
             let taken = x.taken;
             if taken < events.len() {
                 let arrived = last.device.apply_event(events[taken]);
@@ -252,7 +253,7 @@ fn run_words(
     run_result(outcome::BUDGET_SPENT, steps, last.device, x, counters)
 }
 
-// Runs an image from a sequencer's state: document 01's one run call. A lone step is a run with budget 1.
+// Runs an image, starting at the place and with the counters of `sequencer`. A run with budget 1 is a single step.
 pub fn run(
     image: &[u8],
     device: Device,

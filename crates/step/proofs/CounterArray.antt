@@ -1,6 +1,6 @@
--- The counters as an array: a store at the number in use is a push, one below it changes the top counter, and a 0 there
--- takes it out of use. Laid out, the counters of a sequencer in range are its array, and counters in range are a sequencer's
--- in range. Assumes nothing.
+-- The counters as an array and as a list, top first. A store at index `used` is a push, a store one below changes the top
+-- counter, and a 0 stored there pops it. A valid sequencer has valid counters in the list, and valid counters make a valid
+-- sequencer.
 use Prim.Native.Nat.{ℕ, zero, suc, _+_, _-_, _≤_, _<_}
 use mathlib.Core.Path.{_≡_, ap, sym, _∙_}
 use mathlib.Core.Bool.{true, _&&_}
@@ -20,6 +20,7 @@ use Rattle.script.specs.Refusals.{innermost}
 use Rattle.step.specs.Sequencer.{counterInRange, countersOf, counterArray, sequencerAt, sequencerInRange}
 use Rattle.step.specs.declared.Sequencer.{Sequencer}
 
+-- ---- push, read, change and pop the top counter
 pub counter-pushed : (cs : List ℕ) (v : ℕ) → length cs < 8 → set (counterArray cs) (length cs) v ≡ counterArray (v ∷ cs)
 counter-pushed cs v h =
     let e : 8 - length cs ≡ suc (8 - suc (length cs)) = omega arith in
@@ -36,7 +37,7 @@ counter-popped c cs h =
     let e : 8 - length cs ≡ suc (8 - suc (length cs)) = omega arith in
     counter-set c cs 0 ∙ (rw e (array-top 0 cs (replicate (8 - suc (length cs)) 0)))
 
--- ---- the counters of a sequencer in range
+-- ---- the counters of a valid sequencer
 -- the eight counters, one by one
 abbrev pub eight : List ℕ → List ℕ
 eight xs = slice 0 8 0 xs
@@ -59,6 +60,7 @@ rest-zero :
     (s : Sequencer) → sequencerInRange s ≡ true → (k : ℕ) → s .used ≤ k → k < 8 → getD (s .counters) k 0 ≡ 0
 rest-zero s h k l m = eqb-true _ 0 (rw (le-ltb k (s .used) l) at (in-range-at s h k m))
 
+-- the array of a valid sequencer holds its counters in use, then zeros
 pub counters-array : (s : Sequencer) → sequencerInRange s ≡ true → eight (s .counters) ≡ counterArray (countersOf s)
 counters-array s h =
     let n = s .used in
@@ -68,7 +70,7 @@ counters-array s h =
     let z = slice-replicate 0 (8 - n) n xs (λ k l. rest-zero s h (n + k) (omega arith) (omega (arith, l, few))) in
     rw (stack-length n xs, ← z) (sym (rw e at (array-stack n (8 - n) xs)))
 
--- ---- counters in range, as a list and as the array
+-- ---- valid counters, as a list and as an array
 -- "those in use 1 to 65,535"
 abbrev pub Counts : ℕ → Type 0
 Counts c = (1 ≤ c) × (c ≤ 65535)
@@ -111,6 +113,7 @@ rest-at cs k l =
     ∙ getD-append-add (reverse cs) (replicate (8 - length cs) 0) (k - length cs) 0
     ∙ replicate-at 0 (8 - length cs) (k - length cs)
 
+-- at most 8 valid counters make a valid sequencer, at any place
 pub array-in-range :
     (place : ℕ) (cs : List ℕ) → length cs ≤ 8 → AllCount cs → sequencerInRange (sequencerAt place cs) ≡ true
 unfolding sequencerInRange
@@ -126,6 +129,6 @@ array-in-range place cs few h =
         let l : length cs ≤ k = omega (arith, m) in
         rw (le-ltb k (length cs) l, rest-at cs k l)
 
--- ---- a stopped state gone on with: the counters that a run hands back are those that the next one starts from
+-- ---- resuming: the counters that a run returns are those that the next run starts with
 pub counters-back : (place : ℕ) (cs : List ℕ) → countersOf (sequencerAt place cs) ≡ cs
 counters-back place cs = stack-array cs (replicate (8 - length cs) 0)

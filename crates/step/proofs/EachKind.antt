@@ -1,4 +1,5 @@
--- What each kind of word does to a state that holds a machine. Assumes nothing.
+-- For each kind of word: the change that the code makes to its state is what `execute` does to the machine that it
+-- represents.
 use Prim.Native.Nat.{ℕ, suc, _+_, _-_, _≤_, _<_}
 use mathlib.Core.Path.{_≡_, refl, ap, sym, _∙_}
 use mathlib.Core.Bool.{true, false}
@@ -35,7 +36,7 @@ use Rattle.step.specs.Sequencer.{counterArray}
 use Rattle.step.specs.Step.{Machine, execute, enter, loopEnd, machine, testWord}
 use Rattle.step.proofs.CounterArray.{counter-pushed, counter-top, counter-set, counter-popped}
 
--- ---- the kinds apart
+-- ---- `execute`, for each kind
 execute-write :
     (r : Record) (m : Machine) → r .kind ≡ 1
     → execute r m ≡ machine (suc (m .place)) (m .counters) (afterWrite (r .port) (r .width) (r .value) (m .world))
@@ -70,14 +71,14 @@ execute-jump : (r : Record) (m : Machine) → r .kind ≡ 7 → execute r m ≡ 
 unfolding execute
 execute-jump r m k = rw k
 
--- ---- an access behind the next event
+-- ---- an access after the next event
 pub access-write : (r : Record) → r .kind ≡ 1 → accessOf r ≡ writeOf (r .port) (r .width) (r .value)
 access-write r k = rw k
 
 pub access-read : (r : Record) → (r .kind ≡ 1 → ⊥) → accessOf r ≡ readOf (r .port) (r .width)
 access-read r n = rw (ne-eqb (r .kind) 1 n)
 
--- what the code has of it: the device behind the event, the answer, and the place in the list of events
+-- an access of the code: the device after the event, the answer, and the number of events taken
 pub record Accessing (x : RunState) (events : List ℕ) (a : Access) (r : AccessResult) (t : ℕ) : Type 0 where
   pub arrived : Device
   pub applied : arrived ≡ afterNextEvent (x .device) (drop (x .taken) events)
@@ -95,7 +96,7 @@ same-left :
     → Represents x events lent log m → Accessing x events a r t → drop t events ≡ eventsAfter (m .world .events)
 same-left h g = g .left ∙ ap eventsAfter (h .taken)
 
--- the state behind an access that logs nothing
+-- the state after an access that logs nothing
 abbrev pub accessedTo : RunState → AccessResult → (place taken : ℕ) → RunState
 accessedTo x r p t = record {
   device = r .device;
@@ -124,6 +125,7 @@ after-access {x} {events} {lent} {log} {m} {a} {r} {t} {p} {q} h g e =
       lines = rw n (h .lines);
     }
 
+-- a write
 pub wrote :
     (word : Record) (x : RunState) (events : List ℕ) (r : AccessResult) (t : ℕ) → word .kind ≡ 1
     → Accessing x events (writeOf (word .port) (word .width) (word .value)) r t
@@ -132,7 +134,7 @@ unfolding afterWrite
 wrote word x events r t k g = λ log lent m h.
     rw (execute-write word m k) (after-access h g (add-one _ ∙ ap suc (h .place)))
 
--- ---- a test
+-- ---- a test: it continues if the value and the mask have a common 1, and jumps otherwise
 pub test-passed :
     (word : Record) (x : RunState) (events : List ℕ) (r : AccessResult) (t v : ℕ) → word .kind ≡ 6
     → Accessing x events (readOf (word .port) (word .width)) r t → r .answer .value ≡ v → hasBit (word .value) v ≡ true
@@ -167,6 +169,7 @@ readTo x r t = record {
 one-more : (values : List ℕ) (v : ℕ) → length (values ++ (v ∷ [])) ≡ suc (length values)
 one-more values v = let l = length-append values (v ∷ []) in omega (arith, l)
 
+-- storing a value at the number of values logged appends it to the filled part of the log
 logs :
     (values lent log : List ℕ) (n v : ℕ) → n ≡ length values → log ≡ values ++ drop (length values) lent → n < length log
     → set log n v ≡ (values ++ (v ∷ [])) ++ drop (length (values ++ (v ∷ []))) lent
@@ -209,6 +212,7 @@ movedTo x d p = record {
   logged = x .logged;
 }
 
+-- a delay
 pub after-delay-by :
     (word : Record) (x : RunState) (d : Device) → word .kind ≡ 3 → d ≡ applyEvent (x .device) (tickEvent (word .value))
     → KeepsEvents word x (movedTo x d (x .place + 1))
@@ -242,15 +246,17 @@ to-target p h = record {
   lines = h .lines;
 }
 
+-- a jump
 pub jumped : (word : Record) (x : RunState) → word .kind ≡ 7 → KeepsEvents word x (movedTo x (x .device) (word .target))
 jumped word x k = λ events log lent m h. rw (execute-jump word m k) (to-target (word .target) h)
 
+-- an enter with value 0
 pub enter-none :
     (word : Record) (x : RunState) → word .kind ≡ 4 → word .value ≡ 0
     → KeepsEvents word x (movedTo x (x .device) (word .target))
 enter-none word x k z = λ events log lent m h. rw (execute-enter word m k, eq-eqb (word .value) 0 z) (to-target (word .target) h)
 
--- ---- counters
+-- ---- words that change the counters
 abbrev pub countedTo : RunState → (counters : List ℕ) (used place : ℕ) → RunState
 countedTo x cs u p = record {
   device = x .device;
@@ -277,6 +283,7 @@ with-counters xs u p q cs h a b l e = record {
   lines = h .lines;
 }
 
+-- if 8 counters in use require the value 0, another value leaves room for a counter
 pub room-left : (used value : ℕ) → (8 ≤ used → value ≡ 0) → (value ≡ 0 → ⊥) → used < 8
 room-left used value f n = pick (decLt used 8)
   where
@@ -284,6 +291,7 @@ room-left used value f n = pick (decLt used 8)
     pick (yes l) = l
     pick (no l) = absurd (n (f (omega arith)))
 
+-- an enter with another value
 pub enter-pushed :
     (word : Record) (x : RunState) → word .kind ≡ 4 → (word .value ≡ 0 → ⊥) → x .used < 8
     → KeepsEvents word x (countedTo x (set (x .counters) (x .used) (word .value)) (x .used + 1) (x .place + 1))
@@ -294,7 +302,7 @@ enter-pushed word x k z l = λ events log lent m h.
     (rw (h .counters, h .used) (counter-pushed (m .counters) (word .value) few)) (add-one _ ∙ ap suc (h .used)) few
     (add-one _ ∙ ap suc (h .place)))
 
--- the counters with one at the top
+-- a stack of counters that is not empty: its top, and what is below
 pub record Topped (x : RunState) (m : Machine) : Type 0 where
   pub top : ℕ
   pub below : List ℕ
@@ -326,6 +334,7 @@ topped x m a u l z = pick (m .counters) refl
           lowered = λ v. rw (w, a, e) (counter-set c cs v);
         }
 
+-- a loop end at the last turn
 pub loop-over :
     (word : Record) (x : RunState) → word .kind ≡ 5 → 0 < x .used → getD (x .counters) (x .used - 1) 0 ≤ 1
     → KeepsEvents word x (countedTo x (set (x .counters) (x .used - 1) 0) (x .used - 1) (x .place + 1))
@@ -337,6 +346,7 @@ loop-over word x k z l = λ events log lent m h.
     (t .popped) (t .under)
     (omega (arith, t .room)) (add-one _ ∙ ap suc (h .place)))
 
+-- a loop end before the last turn
 pub loop-again :
     (word : Record) (x : RunState) → word .kind ≡ 5 → 0 < x .used → 1 < getD (x .counters) (x .used - 1) 0
     → KeepsEvents word x

@@ -1,4 +1,4 @@
--- The events left of a list, as a place in it: taking the next one moves the place on. Assumes nothing.
+-- The events left, as an index into the list: the next event is the one at the index, and taking it adds 1 to the index.
 use Prim.Native.Nat.{ℕ, _+_, _≤_, _<_}
 use mathlib.Core.Path.{_≡_}
 use mathlib.Core.List.{List}

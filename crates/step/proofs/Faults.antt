@@ -1,4 +1,5 @@
--- What a word without a fault tells, each kind what it needs. Assumes nothing.
+-- A word without a fault meets the conditions of its execution: room in the log, a free counter or one in use, a value in
+-- range.
 use Prim.Native.Nat.{ℕ, zero, suc, _≤_, _<_}
 use mathlib.Core.Path.{_≡_, refl}
 use mathlib.Core.List.{List}
@@ -15,6 +16,7 @@ use Rattle.step.specs.declared.execute.Position.{Position}
 use Rattle.step.specs.Step.{targetBeyond, ninthCounter, noCounter, logFull, wordFault}
 use Rattle.step.specs.Word.{badWord, badWordKind, goodWordFields, wrongWordMark}
 
+-- no fault, check by check
 pub record Clean (words room used logged : ℕ) (r : Record) : Type 0 where
   pub good : badWord r ≡ false
   pub near : targetBeyond words r ≡ false
@@ -46,7 +48,7 @@ pub or-right : (a b : Bool) → (a || b) ≡ false → b ≡ false
 or-right true b h = let z : _≡_ {A = ℕ} 0 1 = cc in absurd (omega arith)
 or-right false b h = h
 
--- ---- what a kind tells
+-- ---- what follows for each kind
 pub read-room : (room logged : ℕ) (r : Record) → r .kind ≡ 2 → logFull room logged r ≡ false → logged < room
 read-room room logged r k h = leb-false room logged (rw k at h)
 
@@ -97,7 +99,7 @@ beyond a k h n = omega arith
 from-six : (k : ℕ) → 6 ≤ k → k ≤ 8 → (k ≡ 7 → ⊥) → (k ≡ 8 → ⊥) → k ≡ 6
 from-six k l h a b = omega arith
 
--- ---- what the two groups of words ask
+-- ---- the conditions of `execute_control`, of `apply_answer` and of a delay
 pub control-ready :
     (words room : ℕ) (x : Position) (r : Record) → wordFault words room (x .used) (x .logged) r ≡ 0 → x .used ≤ 8
     → isControl r ≡ true → ControlReady x r

@@ -1,4 +1,5 @@
--- The code's running state and the definitions' machine are the same thing.
+-- How the state of the code (`RunState`) represents the state of the definitions (`Machine`). Only contracts inside `step`
+-- and `sequencer`, and their proofs, use this file.
 use Prim.Native.Nat.{ℕ, _≤_, _<_}
 use mathlib.Core.Path.{_≡_}
 use mathlib.Core.Bool.{Bool, cond, _||_}
@@ -16,7 +17,7 @@ use Rattle.step.specs.Step.{Machine, execute, logFilled}
 use Rattle.step.specs.declared.execute.Position.{Position}
 use Rattle.step.specs.declared.execute.ControlResult.{ControlResult}
 
--- a run on its way: the device, and where it stands
+-- the state of the code between two words
 pub record RunState : Type 0 where
   pub device : Device
   pub place : ℕ
@@ -35,10 +36,11 @@ runState d x cs = record {
   logged = x .logged;
 }
 
--- an enter, a loop end, a jump
+-- control words: enter, loop end, jump
 abbrev pub isControl : Record → Bool
 isControl r = eqb (r .kind) 4 || (eqb (r .kind) 5 || eqb (r .kind) 7)
 
+-- x represents m; `lent` is the log before the run, `log` the log now
 pub record Represents (x : RunState) (events lent log : List ℕ) (m : Machine) : Type 0 where
   pub device : x .device ≡ m .world .device
   pub place : x .place ≡ m .place
@@ -50,32 +52,32 @@ pub record Represents (x : RunState) (events lent log : List ℕ) (m : Machine) 
   pub logged : x .logged ≡ length (m .world .logged)
   pub lines : log ≡ logFilled (m .world .logged) lent
 
--- what the code does to its state, and to the log, is what the word does to the machine
+-- the step of the code from x and log to y and log' does what the word does to every machine that x represents
 abbrev pub Implements : Record → List ℕ → RunState → List ℕ → RunState → List ℕ → Type 0
 Implements word events x log y log' =
     (lent : List ℕ) (m : Machine) → Represents x events lent log m → Represents y events lent log' (execute word m)
 
--- and it leaves the log alone
+-- the same for a word that does not change the log
 abbrev pub KeepsLog : Record → List ℕ → RunState → RunState → Type 0
 KeepsLog word events x y = (log : List ℕ) → Implements word events x log y log
 
--- and it takes no event
+-- and takes no event
 abbrev pub KeepsEvents : Record → RunState → RunState → Type 0
 KeepsEvents word x y = (events : List ℕ) → KeepsLog word events x y
 
--- the position where such a word leads
+-- the position after a control word
 abbrev pub positionAfter : Position → ControlResult → Position
 positionAfter x y = record { used = y .used; taken = x .taken; logged = x .logged; place = y .place }
 
--- and it leaves the device alone: the place and the counters move
+-- and does not change the device: a control word
 abbrev pub KeepsDevice : Record → Position → List ℕ → ControlResult → List ℕ → Type 0
 KeepsDevice word x cs y cs' = (d : Device) → KeepsEvents word (runState d x cs) (runState d (positionAfter x y) cs')
 
--- and it leaves the counters alone too
+-- and does not change the counters: a jump
 abbrev pub KeepsCounters : Record → Position → ControlResult → Type 0
 KeepsCounters word x y = (cs : List ℕ) → KeepsDevice word x cs y cs
 
--- what the words ask that move the place and the counters alone, and those that access the device: they are asked only of words without a fault
+-- ---- what `execute_control` and `apply_answer` require; it holds for every word without a fault (proofs/Faults.antt)
 pub record ControlReady (x : Position) (word : Record) : Type 0 where
   pub enters : word .kind ≡ 4 → counterCount ≤ x .used → word .value ≡ 0
   pub loops : word .kind ≡ 5 → 0 < x .used
@@ -90,7 +92,7 @@ pub record AccessReady (x : Position) (word : Record) (log : List ℕ) : Type 0 
 abbrev pub accessOf : Record → Access
 accessOf r = cond (eqb (r .kind) 1) (writeOf (r .port) (r .width) (r .value)) (readOf (r .port) (r .width))
 
--- behind the next event and the word's access, which gave the value: the rest of what the word does
+-- the step of the code does what the word does, given the value that the access returned after the next event
 abbrev pub ImplementsAccess : Record → ℕ → List ℕ → Position → List ℕ → Position → List ℕ → Type 0
 ImplementsAccess word value events x log y log' =
     (d arrived : Device) (cs : List ℕ) (r : AccessResult) → arrived ≡ afterNextEvent d (drop (x .taken) events)

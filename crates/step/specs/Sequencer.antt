@@ -1,5 +1,4 @@
--- Document 01, "Scripts and images": the sequencer's state and its range. "at most 8 counters, those in use 1 to 65,535, the
--- rest 0"
+-- The state of the sequencer, and which states are valid. See docs/CHIP.md, "Runs" and "Valid and saved states".
 use Prim.Native.Nat.{ℕ, _-_}
 use mathlib.Core.Bool.{Bool, cond, _&&_}
 use mathlib.Core.List.{List, _++_, reverse}
@@ -19,7 +18,7 @@ freshSequencer = record { place = 0; counters = replicate counterCount 0; used =
 abbrev pub counterInRange : (used k counter : ℕ) → Bool
 counterInRange used k c = cond (ltb k used) (leb 1 c && leb c 65535) (eqb c 0)
 
--- any place is in range: beyond the last word it is 21
+-- "at most 8 counters, those in use 1 to 65,535, the rest 0"; any place is valid, and a place not in the image ends the run with 21
 unfoldable pub sequencerInRange : Sequencer → Bool
 sequencerInRange s = leb (s .used) counterCount && allBelow counterCount (λ k. counterInRange (s .used) k (getD (s .counters) k 0))
 
@@ -27,7 +26,7 @@ sequencerInRange s = leb (s .used) counterCount && allBelow counterCount (λ k. 
 abbrev pub countersOf : Sequencer → List ℕ
 countersOf s = stackOf (s .used) (s .counters)
 
--- counters in use, top first, laid out as the eight: bottom first, and then the rest
+-- the array of a list of counters in use, top first: they are stored bottom first, and 0 follows
 abbrev pub counterArray : List ℕ → List ℕ
 counterArray cs = reverse cs ++ replicate (counterCount - length cs) 0
 

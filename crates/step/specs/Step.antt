@@ -1,4 +1,5 @@
--- Document 01, "Scripts and images": one step of the sequencer.
+-- One step of the sequencer: the faults of a word (`wordFault`), what a word does (`execute`), and the step (`nextStep`).
+-- See docs/CHIP.md, "Words" and "Runs".
 use Prim.Native.Nat.{ℕ, suc, _-_}
 use mathlib.Core.Bool.{Bool, cond, not, _&&_}
 use mathlib.Core.List.{List, _∷_, _++_}
@@ -11,7 +12,7 @@ use Rattle.semantics.specs.World.{World, afterWrite, afterRead, afterTest, shar
 use Rattle.step.specs.Sequencer.{counterCount}
 use Rattle.step.specs.Word.{badWord, imageWords, usesTarget, wordAt}
 
--- the sequencer, its counters in use, top first, and the world that it works on
+-- the state of a run: the place, the counters in use, top first, and the world (device, events left, values logged, accesses)
 pub record Machine : Type 0 where
   pub place : ℕ
   pub counters : List ℕ
@@ -20,7 +21,7 @@ pub record Machine : Type 0 where
 abbrev pub machine : ℕ → List ℕ → World → Machine
 machine p cs w = record { place = p; counters = cs; world = w }
 
--- ---- the faults
+-- ---- the faults of a word
 -- 21: "target [..] beyond the last word", "taken or not"
 abbrev pub targetBeyond : (words : ℕ) → Record → Bool
 targetBeyond words r = usesTarget r && leb words (r .target)
@@ -37,7 +38,7 @@ noCounter used r = eqb (r .kind) 5 && eqb used 0
 abbrev pub logFull : (room logged : ℕ) → Record → Bool
 logFull room logged r = eqb (r .kind) 2 && leb room logged
 
--- "20, 21 for the target (taken or not), 22 to 24"; 0 is none
+-- the first fault, or 0: "20, 21 for the target (taken or not), 22 to 24"
 unfoldable pub wordFault : (words room used logged : ℕ) → Record → ℕ
 wordFault words room used logged r =
     cond (badWord r) ending.badWord
@@ -45,7 +46,7 @@ wordFault words room used logged r =
     (cond (ninthCounter used r) ending.ninthCounter
     (cond (noCounter used r) ending.noCounter (cond (logFull room logged r) ending.logFull 0))))
 
--- ---- what a word does that neither faults nor halts
+-- ---- what a word does if it neither faults nor halts
 -- "4 enter (0 jumps to target, else pushes value)"
 abbrev pub enter : Record → Machine → Machine
 enter r m =
@@ -64,6 +65,7 @@ testWord r m =
     machine (cond (sharesOne (r .port) (r .width) (r .value) (m .world)) (suc (m .place)) (r .target)) (m .counters)
     (afterTest (r .port) (r .width) (m .world))
 
+-- "1, 2, 3 as above; 4 enter [..]; 5 loop end [..]; 6 test [..]; 7 jump"
 unfoldable pub execute : Record → Machine → Machine
 execute r m =
     cond (eqb (r .kind) 1) (machine (suc (m .place)) (m .counters) (afterWrite (r .port) (r .width) (r .value) (m .world)))
@@ -73,7 +75,7 @@ execute r m =
     (cond (eqb (r .kind) 5) (loopEnd r m)
     (cond (eqb (r .kind) 6) (testWord r m) (machine (r .target) (m .counters) (m .world)))))))
 
--- ---- one step, the budget aside
+-- ---- one step, without the budget
 pub data Step : Type 0 where
   goesOn : Machine → Step
   halts : Step
@@ -86,11 +88,11 @@ abbrev pub faultAt : List ℕ → ℕ → Machine → ℕ
 faultAt image room m =
     wordFault (imageWords image) room (length (m .counters)) (length (m .world .logged)) (wordAt image (m .place))
 
--- "then 21 for the place, 20, [..]"
+-- the place is checked before the word: "then 21 for the place, 20, [..]"
 unfoldable pub nextStep : List ℕ → ℕ → Machine → Step
 nextStep image room m =
     cond (leb (imageWords image) (m .place)) (faults ending.beyondLastWord) (stepFrom (wordAt image (m .place)) (faultAt image room m) m)
 
--- ---- the log as lent and the values logged: "The log fills from its front; the rest stays as lent."
+-- ---- the log after a run; `lent` is the log before it. "The log fills from its front; the rest stays as lent."
 abbrev pub logFilled : List ℕ → List ℕ → List ℕ
 logFilled values lent = values ++ drop (length values) lent

@@ -1,4 +1,4 @@
--- Document 01, "Scripts and images": the words of an image, and which of them are bad.
+-- The words of an image, and which of them are bad: `badWord`. See docs/CHIP.md, "Words" and "Runs".
 use Prim.Native.Nat.{ℕ, _*_, _/_}
 use mathlib.Core.Bool.{Bool, not, _&&_, _||_}
 use mathlib.Core.List.{List}

@@ -1,4 +1,5 @@
-// What a word does to the position, when it neither faults nor halts, and its access to the device.
+// What one word does when it neither faults nor halts: its access, and its effect on the place, the loop counters and the
+// log. The loop of `sequencer` calls these functions and makes the access itself. See docs/CHIP.md, "Words" and "Runs".
 use crate::COUNTERS;
 use crate::word;
 use access::Access;
@@ -9,8 +10,8 @@ ghost use lib.ListN.{length, drop};
 ghost use Rattle.semantics.specs.World.{eventsAfter, readOf, writeOf};
 ghost use Rattle.step.specs.Represents.{ImplementsAccess, AccessReady, ControlReady, KeepsDevice, KeepsCounters, accessOf};
 
-// Where a run stands, beside its device and its counters: the next word, and how many counters are in use, events taken and values
-// logged.
+// The state of a run, besides its device and its counters: the place of the next word, and the numbers of counters in use, of
+// events taken and of values logged.
 pub struct Position {
     pub used: usize,
     pub taken: usize,
@@ -18,6 +19,7 @@ pub struct Position {
     pub place: u32,
 }
 
+// The number of events taken, after the next one if the list has one.
 fn events_taken(events: &[u32], taken: usize) -> usize
     requires { ⌜ taken ≤ length (now events) ⌝ }
     ensures { λ r. ⌜ (r ≤ length (now (events .entry))) × (drop r (now (events .entry)) ≡ eventsAfter (drop taken (now (events .entry)))) ⌝ }
@@ -60,17 +62,17 @@ pub fn access_of(word: Record) -> Access
     read_of(word)
 }
 
-// ---- words that move the place and the counters alone
+// ---- control words: enter, loop end and jump
 
-// Where such a word leads. What the run has taken and logged is not handed round: a copy that holds a number just stored makes the
-// processor wait for that store.
+// What a control word changes. The other two fields of `Position` are not passed: copying a field right after it was stored
+// causes a store-forwarding stall.
 pub struct ControlResult {
     pub used: usize,
     pub place: u32,
 }
 
 impl Position {
-    // Repeat 0 jumps and pushes no counter.
+    // A count of 0 jumps over the loop and pushes no counter.
     fn enter(self, word: Record, counters: &mut [u32; COUNTERS]) -> ControlResult
         requires { ⌜ (self .place < 4096) × (word .kind ≡ 4) × (8 ≤ self .used → word .value ≡ 0) ⌝ }
         ensures { λ r. ⌜ KeepsDevice word self (now (counters .entry)) r (now (counters .exit)) ⌝ }
@@ -91,7 +93,7 @@ impl Position {
         }
     }
 
-    // A counter that comes to 0 is out of use.
+    // Subtracts 1 from the top counter. A counter that reaches 0 is popped.
     fn loop_end(self, word: Record, counters: &mut [u32; COUNTERS]) -> ControlResult
         requires { ⌜ (self .place < 4096) × (word .kind ≡ 5) × (0 < self .used) × (self .used ≤ 8) ⌝ }
         ensures { λ r. ⌜ KeepsDevice word self (now (counters .entry)) r (now (counters .exit)) ⌝ }
@@ -120,7 +122,6 @@ impl Position {
         }
     }
 
-    // An enter, a loop end or a jump.
     pub fn execute_control(self, word: Record, counters: &mut [u32; COUNTERS]) -> ControlResult
         requires { ⌜ (self .place < 4096) × ControlReady self word ⌝ }
         ensures { λ r. ⌜ KeepsDevice word self (now (counters .entry)) r (now (counters .exit)) ⌝ }
@@ -139,7 +140,8 @@ impl Position {
 // ---- words that access the device
 
 impl Position {
-    // Behind the access of a write, a read or a test, which gave this value. There is room for the value of a read.
+    // Completes a write, a read or a test whose access returned `value`: counts its event, logs the value of a read, and moves to
+    // the next place. A test whose mask has no common 1 with the value jumps.
     pub fn apply_answer(mut self, word: Record, value: u32, events: &[u32], log: &mut [u32]) -> Self
         requires { ⌜ (self .place < 4096) × (self .taken ≤ length (now events)) × AccessReady self word (now log) ⌝ }
         ensures { λ r. ⌜ ImplementsAccess word value (now (events .entry)) self (now (log .entry)) r (now (log .exit)) ⌝ }

@@ -1,17 +1,18 @@
-// The sequencer's state, its words, and what one word does.
+// The state of the sequencer: the place of the next word and the loop counters. `word` has the faults of a word, `execute`
+// what a word does. `sequencer` runs the words. See docs/CHIP.md, "Runs" and "Valid and saved states".
 pub mod execute;
 pub mod word;
 
 ghost use mathlib.Core.Path.{_≡_};
 ghost use Rattle.step.specs.Sequencer.{freshSequencer, counterInRange, sequencerInRange};
 
-// A sequencer has this many loop counters.
+// The number of loop counters.
 pub const COUNTERS: usize = 8;
 
-// The largest count of a repeat.
+// The largest count of a repeat, and so of a counter.
 const MOST_TURNS: u32 = 65535;
 
-// The place of the next word, and the loop counters, bottom first: `used` of them are in use, and the rest are 0.
+// The place of the next word, and the loop counters, outermost loop first. `used` of them are in use; the others are 0.
 pub struct Sequencer {
     pub place: u32,
     pub counters: [u32; COUNTERS],

@@ -1,4 +1,5 @@
-// Words: which are bad, and which fault.
+// The kinds of words, and `fault`, which checks a word before it is executed. `sequencer` calls it for every word.
+// See docs/CHIP.md, "Words" and "Runs".
 use crate::COUNTERS;
 use record::Record;
 ghost use mathlib.Core.Path.{_≡_};
@@ -24,7 +25,7 @@ pub const JUMP: u32 = 7;
 
 pub const HALT: u32 = 8;
 
-// ---- bad words
+// ---- bad words: fault 20
 
 fn uses_target(r: Record) -> bool
     ensures { λ b. ⌜ b ≡ usesTarget r ⌝ }
@@ -71,7 +72,7 @@ fn bad(r: Record) -> bool
     true
 }
 
-// ---- the other faults
+// ---- faults 21 to 24
 
 fn target_beyond(words: u32, r: Record) -> bool
     ensures { λ b. ⌜ b ≡ targetBeyond words r ⌝ }
@@ -113,7 +114,7 @@ fn log_full(room: usize, logged: usize, r: Record) -> bool
     room <= logged
 }
 
-// The fault of a word, in the order in which they are looked at, or 0.
+// The first fault of a word, in the order of the checks, or 0.
 pub fn fault(words: u32, room: usize, used: usize, logged: usize, r: Record) -> u32
     ensures { λ n. ⌜ n ≡ wordFault words room used logged r ⌝ }
 {
@@ -135,7 +136,7 @@ pub fn fault(words: u32, room: usize, used: usize, logged: usize, r: Record) -> 
     0
 }
 
-// A word that moves the place and the counters alone: an enter, a loop end, a jump.
+// Control words change only the place and the counters: enter, loop end and jump.
 pub fn is_control(r: Record) -> bool
     ensures { λ b. ⌜ b ≡ isControl r ⌝ }
 {

@@ -1,4 +1,5 @@
--- `compiler::compile` meets its contract. Assumes nothing.
+-- `compile` returns `compileResult` and leaves `imageAfter` in the buffer. The three cases are a refusal by the scan, a
+-- buffer that is too short, and success (Compiling.antt).
 use mathlib.Core.Path.{refl, sym, _∙_}
 use mathlib.Core.List.{[]}
 use Rattle.compiler.proofs.Compiling.{accepted-by, done, fit, refused, unfit}

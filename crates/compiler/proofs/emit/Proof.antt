@@ -1,4 +1,5 @@
--- `compiler::emit` meets its contract. Assumes nothing.
+-- `emit` writes the words of the script to the front of the image. The loop invariant `Emitting`: before each record, the
+-- words so far are written, and the rest of the script gives the words that are missing.
 use Prim.Native.Nat.{_-_}
 use mathlib.Core.Path.{refl, sym, _∙_}
 use native.Mathlib.Omega.{arith}

@@ -1,4 +1,4 @@
--- `compiler::emits_word` meets its contract. Assumes nothing.
+-- `emits_word` is `emitsWord`: both are false only for an end whose target is 0.
 use borrow.Author.Tests.{eq-eqb, ne-eqb}
 use Rattle.compiler.proofs.emits_word.Statement.{statement}
 use Rattle.compiler.proofs.emits_word.Tie as tie

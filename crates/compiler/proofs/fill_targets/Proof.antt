@@ -1,4 +1,5 @@
--- `compiler::fill_targets` meets its contract. Assumes nothing.
+-- `fill_targets` finds the target of every record. Each kind of record keeps the loop invariant `Filling`. After the last
+-- record no block is open, so no target is missing.
 use Prim.Native.Nat.{_-_, _<_}
 use mathlib.Core.Path.{refl}
 use lib.ListN.{getD}
@@ -14,7 +15,7 @@ Inv-loop script count targets₀ waiting₀ starts₀ depth₀ place₀ k₀ tar
 abbrev μ-loop : tie.MeasureT-loop
 μ-loop script count targets₀ waiting₀ starts₀ depth₀ place₀ k₀ targets waiting starts depth place k = count - k
 
--- a turn, once the kind of its record is read
+-- a turn of the loop, after the kind of its record was read
 turn : (c : tie.After-kind-at Inv-loop μ-loop)
     → let l = c .before .before .loop in
     Turn (c .before .before .before .before .args .script .now) (c .before .before .before .before .args .count) (l .targets) (l .waiting) (l .starts) (l .depth) (l .place) (l .k)
@@ -25,11 +26,11 @@ turn c = record {
   kind-is = c .kind-at .ensures;
 }
 
--- there is room where a block opens
+-- the arrays have room for one more open block
 has-room : (c : tie.Then2 Inv-loop μ-loop) → c .before .before .before .before .loop .depth < 16
 has-room c = room (turn (c .before .before)) (c .before .if1 .left) (c .if2 .taken)
 
--- an else and an end stand in a block, whose record waits
+-- an else or an end is in a block, whose waiting record is an earlier one
 has-block : (c : tie.Else2 Inv-loop μ-loop) → 0 < c .before .before .before .before .loop .depth
 has-block c = in-block (turn (c .before .before)) (c .if2 .left)
 

@@ -1,4 +1,4 @@
--- `compiler::offset` meets its contract. Assumes nothing.
+-- `offset` is 12 times the place, since `index` returns the place itself.
 use native.Mathlib.Omega.{arith}
 use borrow.Author.Needs.{needs}
 use Rattle.compiler.proofs.offset.Statement.{statement}

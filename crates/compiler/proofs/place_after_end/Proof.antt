@@ -1,4 +1,4 @@
--- `compiler::place_after_end` meets its contract. Assumes nothing.
+-- `place_after_end` is `placeAfterRecord` at an end: one case for an if and one for a repeat.
 use borrow.Author.Needs.{needs}
 use borrow.Author.Tests.{ne-eqb}
 use native.Mathlib.Numerals.{add-one}

@@ -1,4 +1,5 @@
--- `compiler::put` meets its contract. Assumes nothing.
+-- `put` replaces the 12 bytes of one word and leaves the rest of the image unchanged: `record::write` gets only the part of
+-- the image that starts at the word (`put-part`).
 use Prim.Native.Nat.{_-_}
 use lib.ListN.{length}
 use Rattle.record.specs.Record.{bytesOf}

@@ -1,4 +1,4 @@
--- `compiler::start_of` meets its contract. Assumes nothing.
+-- `start_of` is 0 for an if and the place of the body otherwise: one case for each branch.
 use borrow.Author.Tests.{ne-eqb}
 use Rattle.compiler.proofs.start_of.Statement.{statement}
 use Rattle.compiler.proofs.start_of.Tie as tie

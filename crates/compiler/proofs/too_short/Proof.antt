@@ -1,4 +1,4 @@
--- `compiler::too_short` meets its contract. Assumes nothing.
+-- `too_short` compares the length with 12 times the number of words, which is what `offset` returns.
 use borrow.Author.Needs.{needs}
 use Rattle.compiler.proofs.too_short.Statement.{statement}
 use Rattle.compiler.proofs.too_short.Tie as tie

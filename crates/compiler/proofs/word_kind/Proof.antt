@@ -1,4 +1,4 @@
--- `compiler::word_kind` meets its contract. Assumes nothing.
+-- `word_kind` is `wordKind`: the same cases in the same order.
 use borrow.Author.Tests.{ne-eqb}
 use Rattle.compiler.proofs.word_kind.Statement.{statement}
 use Rattle.compiler.proofs.word_kind.Tie as tie

@@ -1,4 +1,5 @@
--- `correct::run_script` meets its contract. Assumes nothing.
+-- `run_script` returns `wholeAnswer` and leaves `wholeLog` in the log: one case for a refusal by the compiler, one for the
+-- run (OneCall.antt).
 use native.Mathlib.Omega.{arith}
 use Rattle.compiler.specs.declared.CompileResult.{CompileResult}
 use mathlib.Core.Path.{ap, sym, _∙_}

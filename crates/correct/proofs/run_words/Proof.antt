@@ -1,4 +1,5 @@
--- `correct::run_words` meets its contract. Assumes nothing.
+-- `run_words` returns the answer of `sequencer::run` for the first words of the image, because it passes only their part of
+-- it.
 use lib.ListN.{length}
 use Prim.Native.Nat.{_*_, _≤_}
 use native.Mathlib.Omega.{arith}

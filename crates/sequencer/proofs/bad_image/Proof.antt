@@ -1,4 +1,4 @@
--- `sequencer::bad_image` meets its contract. Assumes nothing.
+-- `bad_image` is `badImage`: one case for each branch.
 use borrow.Author.Tests.{eq-eqb, ne-eqb}
 use Rattle.sequencer.proofs.bad_image.Statement.{statement}
 use Rattle.sequencer.proofs.bad_image.Tie as tie

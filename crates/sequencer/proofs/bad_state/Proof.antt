@@ -1,4 +1,4 @@
--- `sequencer::bad_state` meets its contract. Assumes nothing.
+-- `bad_state` is `badState`: the device first, then the sequencer, by the contracts of their `in_range`.
 use borrow.Author.Needs.{needs}
 use Rattle.sequencer.proofs.bad_state.Statement.{statement}
 use Rattle.sequencer.proofs.bad_state.Tie as tie

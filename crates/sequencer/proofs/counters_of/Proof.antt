@@ -1,4 +1,4 @@
--- `sequencer::counters_of` meets its contract. Assumes nothing.
+-- `counters_of` returns the counters in use and zeros after them, because the unused counters of a valid sequencer are 0.
 use Rattle.step.proofs.CounterArray.{counters-array}
 use borrow.Author.Needs.{needs}
 use Rattle.sequencer.proofs.counters_of.Statement.{statement}

@@ -1,4 +1,5 @@
--- `sequencer::events_refusal` meets its contract. Assumes nothing.
+-- `events_refusal` is `eventsRefusal`. The loop invariant: the first bad event of the list is the first from k on
+-- (FirstBad.antt).
 use borrow.Author.Needs.{scaled-fits}
 use borrow.Author.Tests.{not-true, not-false}
 use Rattle.sequencer.proofs.FirstBad.{bad-here, bad-further, bad-none}

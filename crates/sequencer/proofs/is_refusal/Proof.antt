@@ -1,4 +1,4 @@
--- `sequencer::is_refusal` meets its contract. Assumes nothing.
+-- `is_refusal` is `isRefusal`: one case for each branch.
 use borrow.Author.Tests.{eq-eqb, ne-eqb}
 use Rattle.sequencer.proofs.is_refusal.Statement.{statement}
 use Rattle.sequencer.proofs.is_refusal.Tie as tie

@@ -1,4 +1,4 @@
--- `sequencer::run` meets its contract. Assumes nothing.
+-- `run` returns `runAnswer` and leaves `logAfter` in the log: one case for a refusal and one for the run (Answers.antt).
 use Rattle.sequencer.proofs.Answers.{allowed, done, few-words, not-refused, refused}
 use borrow.Author.Needs.{needs}
 use Rattle.sequencer.proofs.run.Statement.{statement}

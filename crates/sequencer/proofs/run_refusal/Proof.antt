@@ -1,4 +1,4 @@
--- `sequencer::run_refusal` meets its contract. Assumes nothing.
+-- `run_refusal` is `runRefusal`: the image, the states, then the events, by the contracts of the functions that check them.
 use Rattle.sequencer.specs.Run.{runRefusal}
 use borrow.Author.Needs.{needs}
 use Rattle.sequencer.proofs.run_refusal.Statement.{statement}

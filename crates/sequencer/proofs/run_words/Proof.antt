@@ -1,5 +1,6 @@
--- `sequencer::run_words` meets its contract. The invariant: from the state at the loop's head, the rest of the run is the whole
--- run's end. Each word that neither faults nor halts keeps it, by what its kind does. Assumes nothing.
+-- `run_words` ends as `imageRun` does. The loop invariant (LoopInvariant.antt): the run from the current state, with the rest
+-- of the budget, ends as the whole run does. Each word that neither faults nor halts keeps it, by the contract of the
+-- function that executes it.
 use Prim.Native.Nat.{ℕ, _+_, _-_, _≤_, _<_}
 use mathlib.Core.List.{List}
 use mathlib.Core.Logic.{⊎-elim}
@@ -45,8 +46,8 @@ Inv-loop image events budget log₀ words last₀ x₀ counters₀ steps₀ log 
 abbrev μ-loop : tie.MeasureT-loop
 μ-loop image events budget log₀ words last₀ x₀ counters₀ steps₀ log last x counters steps = budget - steps
 
--- ---- the places that the facts below are named at: the run's start, the loop's head, the word read there with its fault, and
--- that word where it neither faults nor halts. Each is told by the one before it.
+-- ---- the points of the code that the facts below are about: the start, the head of the loop, the word read there with its fault,
+-- and that word if it neither faults nor halts. Each contains the one before it.
 abbrev Start : Type 0
 Start = tie.Start Inv-loop μ-loop
 
@@ -71,7 +72,7 @@ fetch-of w = w .before .before .before
 abbrev state : Head → RunState
 state l = runState (l .loop .last .device) (l .loop .x) (l .loop .counters)
 
--- ---- what is known at the loop's head
+-- ---- what holds at the head of the loop
 abbrev Invariant : Head → Sequencer → List ℕ → RunState → ℕ → Type 0
 Invariant l s log y steps =
     let a = start-of l .args in
@@ -81,7 +82,7 @@ Invariant l s log y steps =
 invariant : (l : Head) → Invariant l (start-of l .args .sequencer) (l .loop .log) (state l) (l .loop .steps)
 invariant l = l .loop .inv (start-of l .args .sequencer) (l .before .before .start .ensures) (l .before .counters-of .ensures)
 
--- ---- what is known of the word that is read there
+-- ---- what holds for the word that is read there
 abbrev word : Fetched → Record
 word f = f .before .read .result
 
@@ -99,7 +100,7 @@ word-looked : (f : Fetched)
 word-looked f =
     looked (f .before .before .before .if1 .left) (f .before .read .ensures) (f .before .before .index .ensures) (f .fault .ensures)
 
--- ---- what is known of a word that neither faults nor halts
+-- ---- what holds for a word that neither faults nor halts
 abbrev executed-at : Executes → Head
 executed-at w = head-of (fetch-of w)
 
@@ -108,7 +109,7 @@ faultless : (w : Executes)
     (executed-at w .loop .x .logged) (word (fetch-of w)) ≡ 0
 faultless w = sym (fetch-of w .fault .ensures) ∙ w .before .before .if2 .left
 
--- the run goes on with what the word does
+-- executing the word keeps the invariant
 next-word : (w : Executes) {y : RunState} {log : List ℕ}
     → Implements (word (fetch-of w)) (start-of (executed-at w) .args .events .now) (state (executed-at w)) (executed-at w .loop .log) y log
     → length log ≡ length (executed-at w .loop .log) → (s : Sequencer) → Starts s (executed-at w .before .before .start .result)
@@ -118,7 +119,7 @@ next-word w does same s h q =
     let f = fetch-of w in
     further _ _ (head-of f .loop .inv s h q) (in-budget f) (word-looked f) (w .before .before .if2 .left) (w .if3 .left) does same
 
--- ---- the three ways on: a word that moves the place and the counters alone, a delay, an access
+-- ---- the three groups of words: control words, delays, accesses
 abbrev turn-of : tie.Then4 Inv-loop μ-loop → Executes
 turn-of t = t .before .before
 
@@ -144,7 +145,7 @@ counters-of-requires c κs = c .before .before .before .before .before .pre .1
 loop-holds : tie.Need-loop-holds Inv-loop μ-loop
 loop-holds c = λ s h q. starts _ _ s _ _ _ _ _ h q
 
--- ---- the place is beyond the last word
+-- ---- the place is not in the image
 run-result-requires : tie.Need-run-result-requires Inv-loop μ-loop
 run-result-requires c κs = search needs
 
@@ -196,7 +197,7 @@ returns-3 c =
     halted _ (invariant (head-of f)) (in-budget f) (word-looked f) (c .before .before .before .if2 .left) (c .before .if3 .taken)
     (c .run-result3 .ensures)
 
--- ---- it moves the place and the counters alone
+-- ---- it is a control word
 is-control-requires : tie.Need-is-control-requires Inv-loop μ-loop
 is-control-requires c κs = search needs
 
@@ -218,7 +219,7 @@ loop-again : tie.Need-loop-again Inv-loop μ-loop
 loop-again c = λ s h q.
     rw (c .count-step .ensures) (next-word (turn-of (c .before .before .before)) (c .before .execute-control .ensures _ _ _) refl s h q)
 
--- ---- it delays
+-- ---- it is a delay
 tick-event-requires : tie.Need-tick-event-requires Inv-loop μ-loop
 tick-event-requires c κs =
     let w = delay-of c in
@@ -255,7 +256,7 @@ shared-slice-read-apply-event c = search needs
 apply-event-requires-2 : tie.Need-apply-event-requires-2 Inv-loop μ-loop
 apply-event-requires-2 c κs = search needs
 
--- the device where the two ways meet: after the next event, if there is one
+-- the device before the access: after the next event, if there is one
 arrived :
     (j : tie.Joined6 Inv-loop μ-loop)
     → let l = executed-at (access-of (j .before)) in

@@ -1,4 +1,4 @@
--- `sequencer::start` meets its contract. Assumes nothing.
+-- `start` returns the position at which a run from a valid sequencer starts: nothing taken, nothing logged.
 use native.Mathlib.Omega.{arith}
 use Rattle.step.proofs.CounterArray.{used-few, used-length}
 use mathlib.Core.Path.{refl}

@@ -1,4 +1,4 @@
--- `step::counter_in_range` meets its contract. Assumes nothing.
+-- `counter_in_range` is `counterInRange`: one case for each branch.
 use borrow.Author.Tests.{le-leb, lt-leb}
 use borrow.Author.Tests.{le-ltb, lt-ltb}
 use Rattle.step.proofs.counter_in_range.Statement.{statement}

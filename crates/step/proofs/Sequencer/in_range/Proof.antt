@@ -1,4 +1,4 @@
--- `step::Sequencer::in_range` meets its contract. Assumes nothing.
+-- `in_range` is `sequencerInRange`. The loop invariant: all counters before k are in range.
 use borrow.Author.Tests.{lt-leb, le-leb, not-true, not-false}
 use Rattle.step.specs.Sequencer.{counterInRange, sequencerInRange}
 use Rattle.mask.specs.Every.{allBelow}

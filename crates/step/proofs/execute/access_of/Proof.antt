@@ -1,4 +1,4 @@
--- `step::execute::access_of` meets its contract. Assumes nothing.
+-- `access_of` is `accessOf`: the write of a write word, otherwise a read.
 use mathlib.Core.Path.{sym, _∙_}
 use Rattle.step.proofs.EachKind.{access-read, access-write}
 use borrow.Author.Needs.{needs}

@@ -1,4 +1,4 @@
--- `step::execute::events_taken` meets its contract. Assumes nothing.
+-- `events_taken` moves past the next event if there is one, and otherwise stays at the end of the list (Events.antt).
 use native.Mathlib.Omega.{arith}
 use Rattle.step.proofs.Events.{after-there, after-none}
 use borrow.Author.Needs.{needs}

@@ -1,4 +1,4 @@
--- `step::word::bad` meets its contract. Assumes nothing.
+-- `bad` is `badWord`: mark, kind and fields, in the same order.
 use Rattle.step.specs.Word.{badWord}
 use borrow.Author.Tests.{eq-eqb, le-leb, lt-leb, ne-eqb}
 use borrow.Author.Needs.{needs}

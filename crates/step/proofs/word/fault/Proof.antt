@@ -1,4 +1,4 @@
--- `step::word::fault` meets its contract. Assumes nothing.
+-- `fault` is `wordFault`: the same checks in the same order, by the contracts of the functions that make them.
 use Rattle.step.specs.Step.{wordFault}
 use borrow.Author.Needs.{needs}
 use Rattle.step.proofs.word.fault.Statement.{statement}

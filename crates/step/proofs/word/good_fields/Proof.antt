@@ -1,4 +1,4 @@
--- `step::word::good_fields` meets its contract. Assumes nothing.
+-- `good_fields` is `goodWordFields`: the target, then the other fields as `script::kind_fields` checks them.
 use borrow.Author.Tests.{not-false, not-true}
 use borrow.Author.Needs.{needs}
 use Rattle.step.proofs.word.good_fields.Statement.{statement}

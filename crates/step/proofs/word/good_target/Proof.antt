@@ -1,4 +1,4 @@
--- `step::word::good_target` meets its contract. Assumes nothing.
+-- `good_target`: a word that uses no target has target 0. One case for each branch.
 use borrow.Author.Needs.{needs}
 use Rattle.step.proofs.word.good_target.Statement.{statement}
 use Rattle.step.proofs.word.good_target.Tie as tie

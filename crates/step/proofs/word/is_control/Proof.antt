@@ -1,4 +1,4 @@
--- `step::word::is_control` meets its contract. Assumes nothing.
+-- `is_control` is `isControl`: one case for each kind.
 use borrow.Author.Tests.{eq-eqb, ne-eqb}
 use Rattle.step.proofs.word.is_control.Statement.{statement}
 use Rattle.step.proofs.word.is_control.Tie as tie

@@ -1,4 +1,4 @@
--- `step::word::log_full` meets its contract. Assumes nothing.
+-- `log_full` is `logFull`: one case for each branch.
 use borrow.Author.Tests.{eq-eqb, ne-eqb}
 use Rattle.step.proofs.word.log_full.Statement.{statement}
 use Rattle.step.proofs.word.log_full.Tie as tie

@@ -1,4 +1,4 @@
--- `step::word::ninth_counter` meets its contract. Assumes nothing.
+-- `ninth_counter` is `ninthCounter`: one case for each branch.
 use borrow.Author.Tests.{eq-eqb, ne-eqb}
 use Rattle.step.proofs.word.ninth_counter.Statement.{statement}
 use Rattle.step.proofs.word.ninth_counter.Tie as tie

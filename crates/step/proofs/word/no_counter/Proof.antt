@@ -1,4 +1,4 @@
--- `step::word::no_counter` meets its contract. Assumes nothing.
+-- `no_counter` is `noCounter`: one case for each branch.
 use borrow.Author.Tests.{eq-eqb, ne-eqb}
 use Rattle.step.proofs.word.no_counter.Statement.{statement}
 use Rattle.step.proofs.word.no_counter.Tie as tie

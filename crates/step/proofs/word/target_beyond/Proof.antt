@@ -1,4 +1,4 @@
--- `step::word::target_beyond` meets its contract. Assumes nothing.
+-- `target_beyond` is `targetBeyond`: one case for each branch.
 use borrow.Author.Needs.{needs}
 use Rattle.step.proofs.word.target_beyond.Statement.{statement}
 use Rattle.step.proofs.word.target_beyond.Tie as tie

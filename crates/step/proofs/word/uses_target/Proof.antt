@@ -1,4 +1,4 @@
--- `step::word::uses_target` meets its contract. Assumes nothing.
+-- `uses_target` is `usesTarget`: kinds 4 to 7.
 use borrow.Author.Tests.{le-leb, lt-leb}
 use Rattle.step.proofs.word.uses_target.Statement.{statement}
 use Rattle.step.proofs.word.uses_target.Tie as tie

@@ -1,4 +1,4 @@
--- `step::execute::Position::apply_answer` meets its contract. Assumes nothing.
+-- `apply_answer` does what the word does after its access: a read, a write, and a test with both results (EachKind.antt).
 use Rattle.step.specs.Represents.{runState}
 use mathlib.Core.Path.{ap, _∙_}
 use mathlib.Core.Bool.{not}

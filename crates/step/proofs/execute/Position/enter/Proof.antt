@@ -1,4 +1,4 @@
--- `step::execute::Position::enter` meets its contract. Assumes nothing.
+-- `enter` does what an enter does, with value 0 and with another value (EachKind.antt).
 use Rattle.step.specs.Represents.{runState}
 use native.Mathlib.Omega.{arith}
 use Rattle.step.proofs.EachKind.{enter-none, enter-pushed, room-left}

@@ -1,4 +1,4 @@
--- `step::execute::Position::execute_control` meets its contract. Assumes nothing.
+-- `execute_control` does what an enter, a loop end or a jump does, by the contracts of `enter`, `loop_end` and `jump`.
 use borrow.Author.Needs.{needs}
 use Rattle.step.proofs.execute.Position.execute_control.Statement.{statement}
 use Rattle.step.proofs.execute.Position.execute_control.Tie as tie

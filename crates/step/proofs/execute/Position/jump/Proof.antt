@@ -1,4 +1,4 @@
--- `step::execute::Position::jump` meets its contract. Assumes nothing.
+-- `jump` does what a jump does: only the place changes (EachKind.antt).
 use Rattle.step.specs.Represents.{runState}
 use Rattle.step.proofs.EachKind.{jumped}
 use Rattle.step.proofs.execute.Position.jump.Statement.{statement}

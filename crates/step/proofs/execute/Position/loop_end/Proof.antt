@@ -1,4 +1,4 @@
--- `step::execute::Position::loop_end` meets its contract. Assumes nothing.
+-- `loop_end` does what a loop end does, when the counter reaches 0 and when it does not (EachKind.antt).
 use Rattle.step.specs.Represents.{runState}
 use Rattle.step.proofs.EachKind.{loop-over, loop-again}
 use borrow.Author.Needs.{needs}
