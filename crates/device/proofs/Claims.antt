@@ -51,7 +51,7 @@ either-at-least port a b l h = pick (eqb port a) (eqb port b) refl refl h
     pick false false e f h = let z : _≡_ {A = ℕ} 0 1 = cc in absurd (omega arith)
 
 module _ (g : Config) (port : ℕ) where
-  -- the offset, port minus first port, is not negative: the same for each block
+  -- the port is at least the first port of its owner, so the offset is not negative; the same for each block
   pub config-owns : owner g port ≡ configuration → configPort ≤ port
   config-owns e = leb-true 0x002E port (and-left (leb 0x002E port) (leb port 0x002F) (claimed g port 0 e))
 

@@ -40,7 +40,7 @@ use Rattle.device.specs.declared.Device.{Device}
 abbrev InRange : Device → Type 0
 InRange d = deviceInRange d ≡ true
 
--- ---- a device is in range exactly if its blocks are
+-- ---- a device is in range if and only if its blocks are
 record BlocksInRange (d : Device) : Type 0 where
   config : configInRange (d .config) ≡ true
   acpi : acpiInRange (d .acpi) ≡ true

@@ -46,7 +46,7 @@ eventKinds =
     ∷ eventKind 7 0 acpi
     ∷ []
 
--- the entry of a column for this kind; 0 for an unknown kind, and a block of 0 is nobody
+-- the entry of a column in the row of this kind; 0 for an unknown kind (a block of 0 means nobody)
 abbrev pub columnAt : (EventKind → ℕ) → ℕ → List EventKind → ℕ
 columnAt column kind [] = 0
 columnAt column kind (r ∷ rs) = cond (eqb kind (r .kind)) (column r) (columnAt column kind rs)
@@ -61,7 +61,7 @@ eventBlock kind = columnAt (λ r. r .block) kind eventKinds
 unfoldable pub isEvent : ℕ → Bool
 isEvent number = not (eqb (eventBlock (kindOf number)) nobody) && leb (operandOf number) (greatestOperand (kindOf number))
 
--- ---- what an event does, before and after settling
+-- ---- what an event does, without settling and with it
 unfoldable pub eventEffect : Device → ℕ → ℕ → Device
 eventEffect d kind operand =
     cond (eqb (eventBlock kind) acpi) (withAcpi d (acpiEvent (d .acpi) kind operand))

@@ -1,5 +1,5 @@
 // The chip: four register blocks on one bus, with reset, range check, outputs and settling. A call takes the device by value and
-// returns the next one. Callers are the single calls (lone.rt), the sequencer, the saved state and the programs. See docs/CHIP.md.
+// returns the next one. The sequencer, `state` and the programs use it. See docs/CHIP.md.
 pub mod dispatch;
 pub mod event;
 pub mod lone;

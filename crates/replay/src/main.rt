@@ -22,7 +22,7 @@ fn kept(line: &mut [u8; 65536], length: usize, b: u8) -> usize {
     LINE + 1
 }
 
-// A line that is too long is not a command.
+// A line that is too long is answered `UNREAD`.
 fn command_of(session: Session, line: &[u8], length: usize) -> Session {
     if length <= line.len() {
         return command::run(session, &line[..length]);

@@ -106,8 +106,8 @@ fn answered(session: Session, result: RunResult, log: &[u32], size: usize) -> Se
     next
 }
 
-// Runs an image on the device and the sequencer of the session, or a script on its device. A line that is too long
-// for the buffers of `replay` is not a command.
+// Runs an image on the device and the sequencer of the session, or a script on its device. A command that is too large for
+// the buffers of `replay` is answered `UNREAD`.
 fn run_within(
     session: Session,
     request: RunRequest,

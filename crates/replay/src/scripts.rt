@@ -9,7 +9,7 @@ fn lend(image: &mut [u8; 16384]) {
     }
 }
 
-// A script or an image buffer that is too long for `replay` is not a command.
+// A script or an image buffer that is too long for `replay` is answered `UNREAD`.
 fn compile_into(script: &[u8], count: usize, image: &mut [u8], length: usize) {
     if script.len() < count {
         answer::unread();

@@ -1,5 +1,5 @@
-// The functions for programs in other languages. They take numbers and slices, any of them. The result is 0, a refusal, or the ending
-// of a run; further numbers go into the slice `answer`, as many as fit. See bindings/c/runnelopal.h.
+// The functions for programs in other languages. They take numbers and slices, and give an answer whatever these contain. The result
+// is 0, a refusal, or the ending of a run. Further numbers go into the slice `answer`, as many as fit. See bindings/c/runnelopal.h.
 use access::Access;
 use device::Device;
 use device::Outputs;

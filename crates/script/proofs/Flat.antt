@@ -139,7 +139,7 @@ module _ (m w p t v : ℕ) (rs : List Record) where
       rw (h .marked, h .untargeted, f .0, f .1, f .2) (ends (next bs refl))
   goes (suc (suc (suc (suc (suc (suc (suc (suc k)))))))) bs h next = absurd (omega arith)
 
--- if the chosen refusal has number 0, it is the first one, because the second has another number
+-- if the chosen refusal has number 0, it is the first one, because the number of the second is not 0
 stops :
     (t : Bool) (a b : Refusal) → (t ≡ false → b .number ≡ 0 → ⊥) → cond t a b .number ≡ 0
     → (t ≡ true) × (a .number ≡ 0)

@@ -56,7 +56,7 @@ const MOST_REPEATS: u32 = 8;
 
 const MOST_WORDS: u32 = Record::MOST as u32;
 
-// The checks of fields, by what a kind uses, without the target. Here width, port and a value: write, if, and the word test.
+// Width, port, and a value that fits the width: write, if, and the word test. The target is not checked here.
 pub fn value_fields(r: Record) -> bool
     ensures { λ b. ⌜ b ≡ valueFields r ⌝ }
 {
@@ -76,7 +76,7 @@ pub fn read_fields(r: Record) -> bool
     false
 }
 
-// A count: delay, repeat, and the word enter.
+// A value of at most 65,535: delay, repeat, and the word enter.
 pub fn count_fields(r: Record) -> bool
     ensures { λ b. ⌜ b ≡ countFields r ⌝ }
 {

@@ -21,7 +21,7 @@ numbers-put first second l =
     ∙ puts-both (decimalText second) (0x0A ∷ []) (put 0x20 (puts (decimalText first) l))
     )
 
--- the first n values of the log are at most n, and at most all
+-- the first n values of a log are at most n values, and at most the whole log
 at-most : (n : ℕ) (l : List ℕ) → (length (take n l) ≤ n) × (length (take n l) ≤ length l)
 at-most zero l = (omega arith, omega arith)
 at-most (suc n) [] = (omega arith, omega arith)
