@@ -1,4 +1,4 @@
--- The owner's claim holds, so its port lies within the block's range; and how large a base can be. Assumes nothing.
+-- The owner of a port claims it, so the port is not below the first port of the block. Bases are bounded by their masks.
 use Prim.Native.Nat.{ℕ, suc, _+_, _-_, _≤_, _<_}
 use mathlib.Core.Path.{_≡_, refl}
 use mathlib.Core.Bool.{Bool, true, false, not, _&&_, _||_}
@@ -29,17 +29,19 @@ use Rattle.device.specs.Owner.{
   owner,
 }
 
+-- a base is at most its mask, so adding an offset does not overflow
 pub runtime-at-most : (g : Config) → runtimeBase g ≤ 0xFF80
 runtime-at-most g = and-le-r (g .«runtime_base») 0xFF80
 
 pub key-at-most : (g : Config) → keyBase g ≤ 0xFFE0
 key-at-most g = and-le-r (g .«key_base») 0xFFE0
 
--- the owner claims the port
+-- the claim of the owner holds
 claimed : (g : Config) (port k : ℕ) → owner g port ≡ suc k → holdsAt (claims g port) (suc k) ≡ true
 unfolding owner
 claimed g port k e = first-holds (claims g port) k e .holds
 
+-- a port that equals one of two ports is at least the smaller one
 either-at-least : (port a b : ℕ) → a ≤ b → (eqb port a || eqb port b) ≡ true → a ≤ port
 either-at-least port a b l h = pick (eqb port a) (eqb port b) refl refl h
   where
@@ -49,6 +51,7 @@ either-at-least port a b l h = pick (eqb port a) (eqb port b) refl refl h
     pick false false e f h = let z : _≡_ {A = ℕ} 0 1 = cc in absurd (omega arith)
 
 module _ (g : Config) (port : ℕ) where
+  -- the port is at least the first port of its owner, so the offset is not negative; the same for each block
   pub config-owns : owner g port ≡ configuration → configPort ≤ port
   config-owns e = leb-true 0x002E port (and-left (leb 0x002E port) (leb port 0x002F) (claimed g port 0 e))
 
@@ -73,6 +76,7 @@ module _ (g : Config) (port : ℕ) where
   pub key-owns : owner g port ≡ key → keyPort g ≤ port
   key-owns e = leb-true (keyBase g) port (and-left (leb (keyBase g) port) _ (key-within e))
 
+  -- the offset selects one of the 32 key bytes
   pub key-byte : owner g port ≡ key → port - keyPort g < 32
   key-byte e =
       let above = key-owns e in

@@ -1,5 +1,5 @@
--- "Apart from the settling below, statuses 1 to 5 change nothing. [..] A write's value answer is 0.", for every device and access: each
--- block's answer is orderly. Assumes nothing.
+-- "Apart from the settling below, statuses 1 to 5 change nothing. [..] A write's value answer is 0." This holds of every device and
+-- access, because it holds of each block (`Orderly`).
 use Prim.Native.Nat.{ℕ, _-_}
 use mathlib.Core.Path.{_≡_, refl, ap, _∙_}
 use mathlib.Core.Bool.{Bool, true, false, cond}
@@ -23,7 +23,7 @@ record OrderlyResult (d : Device) (x : Access) (r : AccessResult) : Type 0 where
   unchanged : (r .answer .status ≡ 0 → ⊥) → r .device ≡ d
   write-zero : x .write ≡ true → r .answer .value ≡ 0
 
--- a block whose answer is orderly makes the device's so
+-- if the answer of the block is orderly, so is the answer of the device
 by-block :
     {B : Type 0} {d : Device} {x : Access} {b : B} {r : Result B} (put : B → Device) → put b ≡ d → Orderly b (x .write) r
     → OrderlyResult d x (answeredBy put r)
@@ -49,7 +49,7 @@ dispatch-orderly d x =
     )
     (owner g (x .port))
 
--- a write and a read are answered with the owner's status
+-- the status is that of the owner, for reads and for writes
 same-status : (x : Access) (r : Answer) → answerGiven x r .status ≡ r .status
 same-status x r = pick (x .write)
   where
@@ -58,6 +58,7 @@ same-status x r = pick (x .write)
     pick true = refl
     pick false = refl
 
+-- with a status other than 0, only settling changes the device
 pub access-unchanged :
     (d : Device) (x : Access) → (deviceAccess d x .answer .status ≡ 0 → ⊥) → deviceAccess d x .device ≡ settleDevice d
 unfolding deviceAccess

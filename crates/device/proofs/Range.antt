@@ -1,5 +1,5 @@
--- The fresh device is in range, and every access and event leaves it so, as each block's own law says; reset 3 gives the fresh
--- device. Assumes nothing.
+-- The fresh device is in range, and every access and event keeps a device in range, by the laws of
+-- the blocks. Reset 3 returns the fresh device.
 use Prim.Native.Nat.{ℕ, _+_, _-_, _*_, _^_}
 use mathlib.Core.Path.{_≡_, refl}
 use mathlib.Core.Bool.{true}
@@ -40,7 +40,7 @@ use Rattle.device.specs.declared.Device.{Device}
 abbrev InRange : Device → Type 0
 InRange d = deviceInRange d ≡ true
 
--- ---- a device in range is one whose blocks are
+-- ---- a device is in range if and only if its blocks are
 record BlocksInRange (d : Device) : Type 0 where
   config : configInRange (d .config) ≡ true
   acpi : acpiInRange (d .acpi) ≡ true
@@ -68,7 +68,7 @@ fresh-in-range =
     })
 
 module _ (d : Device) (h : InRange d) where
-  -- ---- one block changed
+  -- ---- one block replaced by a block in range
   with-config : (g : Config) → configInRange g ≡ true → InRange (withConfig d g)
   with-config g k = let b = blocks d h in together _ (record { config = k; acpi = b .acpi; monitor = b .monitor })
 
@@ -136,6 +136,7 @@ pub reset-is-fresh : (d : Device) → resetDevice d 3 ≡ freshDevice
 unfolding resetDevice acpiReset
 reset-is-fresh d = refl
 
+-- the event of reset 3 also settles the device, which changes nothing on the fresh device
 pub reset-event : (d : Device) → applyEvent d (6 * 2 ^ 24 + 3) ≡ freshDevice
 unfolding applyEvent eventEffect resetDevice eventBlock acpiReset
 reset-event d = settle-fresh-device

@@ -1,4 +1,5 @@
--- Settling the device twice is settling it once, and the fresh device is settled: each block's own law. Assumes nothing.
+-- Settling a device twice is the same as settling it once, and the fresh device is settled.
+-- Both follow from the laws of the ACPI block.
 use mathlib.Core.Path.{_≡_, ap}
 use Rattle.acpi.proofs.Settle.{settle-fresh, settle-twice}
 use Rattle.device.specs.Device.{freshDevice, settleDevice, withAcpi}

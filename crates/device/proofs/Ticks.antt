@@ -1,5 +1,5 @@
--- n ticks of the device are n single ticks, for 1 to 65,535 and every device in range: the ACPI block's own law, and
--- nothing else of the device changes. Assumes nothing.
+-- An event of n ticks has the same effect as n events of 1 tick, for 1 to 65,535 ticks and every device in range. This follows from
+-- the same law of the ACPI block, because ticks change no other block.
 use Prim.Native.Nat.{ℕ, zero, suc, _+_, _^_, _≤_}
 use mathlib.Core.Path.{_≡_, refl, sym, ap, _∙_}
 use mathlib.Core.Bool.{true}
@@ -14,7 +14,7 @@ use Rattle.device.specs.Device.{deviceInRange, settleDevice, withAcpi}
 use Rattle.device.specs.Event.{applyEvent, eventBlock, eventEffect, kindOf, operandOf}
 use Rattle.device.specs.declared.Device.{Device}
 
--- n ticks are the ACPI block's
+-- an event of n ticks changes only the ACPI block
 ticks-applied : (d : Device) (n : ℕ) → n ≤ 65535 → applyEvent d (2 ^ 24 + n) ≡ withAcpi d (acpiSettle (ticked (d .acpi) n))
 unfolding applyEvent eventEffect eventBlock acpiEvent
 ticks-applied d n l =
@@ -22,6 +22,7 @@ ticks-applied d n l =
     let o : operandOf (2 ^ 24 + n) ≡ n = omega arith in
     ap (λ (i : ℕ). settleDevice (eventEffect d i (operandOf (2 ^ 24 + n)))) k ∙ ap (λ (i : ℕ). settleDevice (eventEffect d 1 i)) o
 
+-- n events of 1 tick change only the ACPI block
 singles : (d : Device) (n : ℕ)
     → times n (λ e. applyEvent e (2 ^ 24 + 1)) d ≡ withAcpi d (times n (λ b. acpiSettle (ticked b 1)) (d .acpi))
 singles d zero = refl

@@ -1,4 +1,5 @@
--- Document 01: the blocks on one bus; the fresh device, its resets, its range, its outputs, its settling.
+-- The device: four blocks on one bus, the fresh device, resets, range check, outputs and settling.
+-- See docs/CHIP.md, "What the chip is", "Resets" and "Outputs".
 use Prim.Native.Nat.{ℕ}
 use mathlib.Core.Bool.{Bool}
 use mathlib.Core.List.{List, [], _∷_}
@@ -31,8 +32,9 @@ withKey d k = record { config = d .config; acpi = d .acpi; monitor = d .monitor;
 abbrev pub freshDevice : Device
 freshDevice = record { config = freshConfig; acpi = freshAcpi; monitor = freshMonitor; key = freshKey }
 
--- "Reset 0: configuration [..]. Reset 1 also the monitor [..]. Reset 2 also the ACPI block [..]. Reset 3 also key bytes and pin
--- levels 0: the fresh device.": each block knows what a reset of this level does to it
+-- "Reset 0: configuration [..]. Reset 1 also the monitor [..]. Reset 2 also the ACPI block [..]. Reset 3 also key
+-- bytes and pin levels 0: the fresh device."
+-- each block decides what a reset of this level clears
 unfoldable pub resetDevice : Device → ℕ → Device
 resetDevice d level = record {
   config = configReset (d .config) level;
@@ -41,17 +43,17 @@ resetDevice d level = record {
   key = keyReset (d .key) level;
 }
 
--- "State in range": every block is; key bytes take any value
+-- "State in range": every block is in range; the key needs no test, because any byte is a key byte
 abbrev pub rangeTests : Device → List Bool
 rangeTests d = configInRange (d .config) ∷ acpiInRange (d .acpi) ∷ monitorInRange (d .monitor) ∷ []
 
 unfoldable pub deviceInRange : Device → Bool
 deviceInRange d = allHold (rangeTests d)
 
--- SCI, SMI and the monitor interrupt
+-- the levels of SCI, SMI and the monitor interrupt
 abbrev pub outputsOf : Device → Outputs
 outputsOf d = record { sci = sciOn (d .acpi); smi = smiOn (d .acpi); monitor = interrupt (d .monitor) }
 
--- "After every event and access, in order": each block's own settling; only the ACPI block has one
+-- "After every event and access, in order": only the ACPI block has something to settle
 abbrev pub settleDevice : Device → Device
 settleDevice d = withAcpi d (acpiSettle (d .acpi))

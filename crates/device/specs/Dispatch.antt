@@ -1,4 +1,5 @@
--- Document 01, "What the chip model holds": an access, answered by the owner of its port, and settled.
+-- An access: the owner of the port answers, and the device settles. `deviceAccess` is the complete definition.
+-- See docs/CHIP.md, "Accesses".
 use Prim.Native.Nat.{_-_}
 use mathlib.Core.Bool.{cond}
 use mathlib.Core.List.{List, [], _∷_}
@@ -19,7 +20,7 @@ use Rattle.device.specs.declared.Device.{Device}
 abbrev pub accessResult : Answer → Device → AccessResult
 accessResult r d = record { answer = r; device = d }
 
--- a block's answer, and the device with that block
+-- the answer of a block, and the device into which `put` has put the new state of that block
 abbrev pub answeredBy : {B : Type 0} → (B → Device) → Result B → AccessResult
 answeredBy put r = accessResult (r .answer) (put (r .block))
 
@@ -27,7 +28,7 @@ answeredBy put r = accessResult (r .answer) (put (r .block))
 abbrev pub unclaimed : Device → AccessResult
 unclaimed d = accessResult (statusOnly 1) d
 
--- what each block answers to an access at its ports, by the owner's number
+-- the answer of each block at its own ports; the position in the list is the number of the owner
 abbrev pub answers : Device → Access → List AccessResult
 answers d x =
     unclaimed d
@@ -40,10 +41,10 @@ answers d x =
 unfoldable pub dispatch : Device → Access → AccessResult
 dispatch d x = getD (answers d x) (owner (d .config) (x .port)) (unclaimed d)
 
--- the status table's column "Read gives"; a write's answer is the owner's, whose value is 0
+-- the column "Read gives" of the status table; the answer to a write is the answer of the owner, and its value is 0
 abbrev pub answerGiven : Access → Answer → Answer
 answerGiven x r = cond (x .write) r (record { status = r .status; value = readGives (r .status) (x .width) (r .value) })
 
--- an access: its answer, and the device after it and its settling
+-- the answer to an access, and the device after the access and the settling
 unfoldable pub deviceAccess : Device → Access → AccessResult
 deviceAccess d x = accessResult (answerGiven x (dispatch d x .answer)) (settleDevice (dispatch d x .device))

@@ -1,4 +1,5 @@
--- Document 01, "Outside events": "32-bit numbers, kind in the top byte, operand below".
+-- Events from outside the chip: "32-bit numbers, kind in the top byte, operand below". `isEvent` is the check of refusal 12,
+-- `applyEvent` the effect of an event. See docs/CHIP.md, "Events".
 use Prim.Native.Nat.{ℕ, _+_, _*_, _/_, _%_, _^_}
 use mathlib.Core.Bool.{Bool, cond, not, _&&_}
 use mathlib.Core.List.{List, [], _∷_}
@@ -15,11 +16,11 @@ kindOf number = number / 2 ^ 24
 abbrev pub operandOf : ℕ → ℕ
 operandOf number = number % 2 ^ 24
 
--- so many ticks
+-- the event of this many ticks; ticks are kind 1
 abbrev pub tickEvent : ℕ → ℕ
 tickEvent ticks = 1 * 2 ^ 24 + ticks
 
--- ---- the kinds of event: the greatest operand, and the block that it goes to
+-- ---- the kinds of events, each with its greatest operand and the block that takes it
 pub record EventKind : Type 0 where
   pub kind : ℕ
   pub greatest : ℕ
@@ -28,7 +29,7 @@ pub record EventKind : Type 0 where
 abbrev eventKind : ℕ → ℕ → ℕ → EventKind
 eventKind k g b = record { kind = k; greatest = g; block = b }
 
--- a reset goes to every block
+-- a reset goes to every block; this is not the number of a block
 abbrev pub everyBlock : ℕ
 everyBlock = 255
 
@@ -45,7 +46,7 @@ eventKinds =
     ∷ eventKind 7 0 acpi
     ∷ []
 
--- a column of the table at a kind; 0, which is nobody, for a kind that is none
+-- the entry of a column in the row of this kind; 0 for an unknown kind (a block of 0 means nobody)
 abbrev pub columnAt : (EventKind → ℕ) → ℕ → List EventKind → ℕ
 columnAt column kind [] = 0
 columnAt column kind (r ∷ rs) = cond (eqb kind (r .kind)) (column r) (columnAt column kind rs)
@@ -56,11 +57,11 @@ greatestOperand kind = columnAt (λ r. r .greatest) kind eventKinds
 unfoldable pub eventBlock : ℕ → ℕ
 eventBlock kind = columnAt (λ r. r .block) kind eventKinds
 
--- an event that refusal 12 lets through: its kind is in the table, and its operand is not too large
+-- an event that is not refused with 12: the kind is in the table, and the operand is not too large
 unfoldable pub isEvent : ℕ → Bool
 isEvent number = not (eqb (eventBlock (kindOf number)) nobody) && leb (operandOf number) (greatestOperand (kindOf number))
 
--- ---- what an event does, before the settling
+-- ---- what an event does, without settling and with it
 unfoldable pub eventEffect : Device → ℕ → ℕ → Device
 eventEffect d kind operand =
     cond (eqb (eventBlock kind) acpi) (withAcpi d (acpiEvent (d .acpi) kind operand))

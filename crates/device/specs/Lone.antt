@@ -1,5 +1,6 @@
--- Document 01, "Scripts and images": "A lone access: 11, then 4 (width, port, or a write value too wide); a lone event:
--- 11, 12; place 0 in each. A refusal's other numbers are 0".
+-- Single calls: one access or one event on any device, with the refusals. See docs/CHIP.md, "Single calls".
+-- "A lone access: 11, then 4 (width, port, or a write value too wide); a lone event: 11, 12; place
+-- 0 in each. A refusal's other numbers are 0"
 use Prim.Native.Nat.{ℕ}
 use mathlib.Core.Bool.{Bool, true, false, cond, _&&_}
 use lib.Dec.{leb}
@@ -15,7 +16,7 @@ use Rattle.device.specs.declared.AccessResult.{AccessResult}
 use Rattle.device.specs.declared.lone.LoneAccess.{LoneAccess}
 use Rattle.device.specs.declared.lone.LoneEvent.{LoneEvent}
 
--- an access that refusal 4 lets through
+-- an access that is not refused with 4; the value of a read is not checked
 abbrev pub isAccess : Access → Bool
 isAccess x = isWidth (x .width) && (leb (x .port) 0xFFFF && cond (x .write) (fitsWidth (x .width) (x .value)) true)
 

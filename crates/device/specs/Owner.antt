@@ -1,4 +1,5 @@
--- Document 01, "What the chip model holds": which block owns a port. The configuration decides, since it holds the bases.
+-- Which block owns a port: the first that claims it. The configuration holds the activate bit and the bases.
+-- See docs/CHIP.md, "Port map".
 use Prim.Native.Nat.{ℕ, _+_}
 use mathlib.Core.Bool.{Bool, not, _&&_, _||_}
 use mathlib.Core.List.{List, [], _∷_}
@@ -8,7 +9,7 @@ use Rattle.config.specs.declared.Config.{Config}
 use Rattle.lists.specs.Tests.{firstHolding}
 use Rattle.mask.specs.Mask.{hasBit}
 
--- ---- the blocks' numbers, in the order of their claims
+-- ---- the numbers of the blocks, in the order of their claims
 abbrev pub nobody : ℕ
 nobody = 0
 
@@ -38,7 +39,7 @@ abbrev pub keyPort : Config → ℕ
 keyPort g = keyBase g
 
 -- ---- the claims
--- a block at fixed ports claims them from its first to its last
+-- a block at fixed ports claims all ports from its first to its last
 abbrev pub inPorts : (first last port : ℕ) → Bool
 inPorts first last port = leb first port && leb port last
 
@@ -69,6 +70,6 @@ keyClaims g port =
 abbrev pub claims : Config → ℕ → List Bool
 claims g port = configClaims port ∷ acpiClaims port ∷ monitorClaims g port ∷ keyClaims g port ∷ []
 
--- "The first owner answers": the block's number, or 0 where nobody claims the port
+-- "The first owner answers": the number of the block, or 0 if no block claims the port
 unfoldable pub owner : Config → ℕ → ℕ
 owner g port = firstHolding (claims g port)

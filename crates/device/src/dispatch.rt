@@ -1,4 +1,5 @@
-// An access: the owner of its port answers, the device takes that block's next state, and what is pending settles.
+// An access: the owner of the port answers, the device takes the new state of that block, and the device settles. Any access to any
+// device is answered. The single calls and the sequencer call `Device::access`. See docs/CHIP.md, "Accesses".
 use access::Access;
 use access::Answer;
 ghost use mathlib.Core.Path.{_≡_};
@@ -8,7 +9,7 @@ use crate::Device;
 use crate::owner::monitor_port;
 use crate::owner::owner;
 
-// A read gives what its status says; a write's answer is the owner's.
+// The value of a read depends on the status. The answer to a write is the answer of the owner.
 fn answer_given(access: Access, answer: Answer) -> Answer
     ensures { λ r. ⌜ r ≡ answerGiven access answer ⌝ }
 {
@@ -23,7 +24,8 @@ fn answer_given(access: Access, answer: Answer) -> Answer
 }
 
 impl Device {
-    // The owner's answer, and the device with the block that answered. The device is taken apart, so that only one block is replaced.
+    // The answer of the owner, and the device with the new state of that block. The device is taken apart
+    // first, so that only one block is replaced.
     fn dispatch(self, access: Access) -> AccessResult
         ensures { λ r. ⌜ r ≡ dispatch self access ⌝ }
     {
@@ -88,7 +90,7 @@ impl Device {
         }
     }
 
-    // An access: its answer, and the device after it and its settling.
+    // The answer to an access, and the device after the access and the settling.
     pub fn access(self, access: Access) -> AccessResult
         ensures { λ r. ⌜ r ≡ deviceAccess self access ⌝ }
     {

@@ -1,4 +1,5 @@
-// Outside events: document 01, "Outside events". A 32-bit number, its kind in the top byte and its operand below.
+// Events from outside the chip. An event is a 32-bit number: the kind in bits 31 to 24, the operand in bits 23 to 0. The single calls
+// and the sequencer check it with `is_event` and then call `Device::apply_event`. See docs/CHIP.md, "Events".
 use acpi::Acpi;
 use monitor::Monitor;
 ghost use mathlib.Core.Path.{_≡_};
@@ -6,15 +7,16 @@ ghost use Prim.Native.Nat.{_≤_};
 ghost use Rattle.device.specs.Event.{applyEvent, eventBlock, greatestOperand, isEvent, tickEvent};
 use crate::Device;
 
-// A kind's place in an event's number.
+// The kind is the number divided by this, and the operand is the remainder.
 pub const KIND: u32 = 0x0100_0000;
 
+// The kind of a reset. The other kinds are constants of the block that takes them.
 pub const RESET: u32 = 6;
 
-// A reset goes to every block.
+// A reset goes to every block. This is not the number of a block.
 const EVERY_BLOCK: u32 = 255;
 
-// The block that a kind of event goes to.
+// The block that takes events of this kind, or `NOBODY` for an unknown kind.
 fn event_block(kind: u32) -> u32
     ensures { λ r. ⌜ r ≡ eventBlock kind ⌝ }
 {
@@ -45,7 +47,7 @@ fn greatest_operand(kind: u32) -> u32
     }
 }
 
-// The event of so many ticks.
+// The event of this many ticks.
 pub fn tick_event(ticks: u32) -> u32
     requires { ⌜ ticks ≤ 65535 ⌝ }
     ensures { λ r. ⌜ r ≡ tickEvent ticks ⌝ }
@@ -53,6 +55,7 @@ pub fn tick_event(ticks: u32) -> u32
     Acpi::TICKS * KIND + ticks
 }
 
+// False for the events that are refused with 12: the kind is unknown or the operand is too large.
 pub fn is_event(number: u32) -> bool
     ensures { λ r. ⌜ r ≡ isEvent number ⌝ }
 {
@@ -64,7 +67,7 @@ pub fn is_event(number: u32) -> bool
 }
 
 impl Device {
-    // An event: the device after it and its settling.
+    // The device after the event and the settling.
     pub fn apply_event(mut self, number: u32) -> Self
         ensures { λ r. ⌜ r ≡ applyEvent self number ⌝ }
     {

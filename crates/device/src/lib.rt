@@ -1,4 +1,5 @@
-// The chip: the register blocks on one bus. A device goes in by value, and the next device comes back beside the answer.
+// The chip: four register blocks on one bus, with reset, range check, outputs and settling. A call takes the device by value and
+// returns the next one. The sequencer, `state` and the programs use it. See docs/CHIP.md.
 pub mod dispatch;
 pub mod event;
 pub mod lone;
@@ -12,7 +13,8 @@ use monitor::Monitor;
 ghost use mathlib.Core.Path.{_≡_};
 ghost use Rattle.device.specs.Device.{freshDevice, deviceInRange, outputsOf, resetDevice, settleDevice};
 
-// The blocks, the largest first: a device is copied in pieces of sixteen bytes, and the two large blocks then start at such a piece.
+// The largest block comes first. A device is copied 16 bytes at a time, and in this order the
+// two large blocks start at multiples of 16.
 pub struct Device {
     pub acpi: Acpi,
     pub key: Key,
@@ -20,20 +22,21 @@ pub struct Device {
     pub config: Config,
 }
 
-// SCI, SMI and the monitor interrupt: levels, computed from the state.
+// SCI, SMI and the monitor interrupt. They are levels, computed from the state. See docs/CHIP.md, "Outputs".
 pub struct Outputs {
     pub sci: bool,
     pub smi: bool,
     pub monitor: bool,
 }
 
-// An access's answer, and the device after it.
+// The answer to an access, and the device after it.
 pub struct AccessResult {
     pub device: Device,
     pub answer: Answer,
 }
 
 impl Device {
+    // The device after reset 3.
     pub fn fresh() -> Self
         ensures { λ r. ⌜ r ≡ freshDevice ⌝ }
     {
@@ -49,7 +52,7 @@ impl Device {
         }
     }
 
-    // A reset reaches every block; its level says how much each of them loses.
+    // Each block decides what a reset of this level clears. See docs/CHIP.md, "Resets".
     pub fn reset(self, level: u32) -> Self
         ensures { λ r. ⌜ r ≡ resetDevice self level ⌝ }
     {
@@ -65,6 +68,7 @@ impl Device {
         }
     }
 
+    // Is the device valid? The key has no test, because any byte is a key byte. See docs/CHIP.md, "Valid and saved states".
     pub fn in_range(self) -> bool
         ensures { λ r. ⌜ r ≡ deviceInRange self ⌝ }
     {
@@ -90,7 +94,7 @@ impl Device {
         }
     }
 
-    // What follows every event and every access. With nothing pending, the device stays as it is.
+    // Runs after every access and every event. If no status bit is pending, the device is unchanged.
     pub fn settle(mut self) -> Self
         ensures { λ r. ⌜ r ≡ settleDevice self ⌝ }
     {

@@ -1,4 +1,5 @@
-// The lone access and the lone event: any device, any numbers; a refusal hands the device back unchanged.
+// Single calls: one access or one event on any device, valid or not, with any numbers. A refusal returns the device unchanged.
+// `runnelopal` and `replay` call them. See docs/CHIP.md, "Single calls".
 use access::Access;
 ghost use mathlib.Core.Path.{_≡_};
 ghost use Rattle.device.specs.Lone.{isAccess, accessRefused, accessDone, loneAccess, eventRefused, eventDone, loneEvent, noOutputs};
@@ -6,7 +7,8 @@ use crate::AccessResult;
 use crate::Device;
 use crate::Outputs;
 
-// The answer to a lone access. `refusal` is 0 where it is done, and else document 01's number.
+// The answer to a single access. `refusal` is 0 if the access was made. Otherwise it is the number
+// of the refusal, and all other numbers are 0.
 pub struct LoneAccess {
     pub device: Device,
     pub refusal: u32,
@@ -16,6 +18,7 @@ pub struct LoneAccess {
     pub outputs: Outputs,
 }
 
+// The answer to a single event, in the same form.
 pub struct LoneEvent {
     pub device: Device,
     pub refusal: u32,
@@ -23,6 +26,7 @@ pub struct LoneEvent {
     pub outputs: Outputs,
 }
 
+// False for the accesses that are refused with 4. The value of a read is not checked.
 fn is_access(access: Access) -> bool
     ensures { λ r. ⌜ r ≡ isAccess access ⌝ }
 {

@@ -1,10 +1,11 @@
-// Which block owns a port. The configuration decides, since it holds the bases.
+// Which block owns a port: the first that claims it. The port and the configuration decide, because the configuration holds the
+// activate bit and the bases. `Device::dispatch` calls `owner`. See docs/CHIP.md, "Port map".
 use config::Config;
 ghost use mathlib.Core.Path.{_≡_};
 ghost use Rattle.device.specs.Owner.{owner, inPorts, isActive, monitorClaims, keyClaims, monitorPort};
 use crate::Device;
 
-// Owners of a port and their ports.
+// The numbers of the owners, in the order of their claims, and the ports of the blocks.
 impl Device {
     pub const NOBODY: u32 = 0;
 
@@ -23,7 +24,7 @@ impl Device {
     pub const ACPI_FIRST: u32 = 0xAC00;
 
     pub const ACPI_LAST: u32 = 0xAC1F;
-    // The monitor's index and data registers, from the runtime base.
+    // Offsets of the monitor's index and data ports from the runtime base.
     pub const MONITOR_INDEX: u32 = 0x70;
 
     pub const MONITOR_DATA: u32 = 0x71;
@@ -31,7 +32,7 @@ impl Device {
     pub const KEY_BYTES: u32 = 32;
 }
 
-// A block at fixed ports claims them from its first to its last.
+// A block at fixed ports claims all ports from `first` to `last`.
 fn in_ports(first: u32, last: u32, port: u32) -> bool
     ensures { λ r. ⌜ r ≡ inPorts first last port ⌝ }
 {
@@ -41,6 +42,7 @@ fn in_ports(first: u32, last: u32, port: u32) -> bool
     false
 }
 
+// Without this bit the monitor and the key have no ports.
 fn is_active(config: Config) -> bool
     ensures { λ r. ⌜ r ≡ isActive config ⌝ }
 {
@@ -63,7 +65,7 @@ fn monitor_claims(config: Config, port: u32) -> bool
     port == base + Device::MONITOR_DATA
 }
 
-// The monitor's first port.
+// The first port of the monitor, which is its index port.
 pub fn monitor_port(config: Config) -> u32
     ensures { λ r. ⌜ r ≡ monitorPort config ⌝ }
 {
@@ -86,7 +88,7 @@ fn key_claims(config: Config, port: u32) -> bool
     port < base + Device::KEY_BYTES
 }
 
-// The first block that claims the port.
+// The first block that claims the port, or `NOBODY`.
 pub fn owner(config: Config, port: u32) -> u32
     ensures { λ r. ⌜ r ≡ owner config port ⌝ }
 {

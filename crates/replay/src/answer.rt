@@ -1,4 +1,4 @@
-// The lines that `replay` prints, each written whole.
+// The lines that `replay` prints. Each line is put into a buffer and written at once. See docs/CASES.md, "Commands".
 use crate::session::Session;
 use device::Device;
 use device::Outputs;
@@ -77,7 +77,7 @@ pub fn outputs(outputs: Outputs) {
     print(&mut line, b);
 }
 
-// The first `size` bytes, of those that there are.
+// Puts the first `size` bytes, or all if there are fewer.
 fn put_bytes(line: &mut [u8], at: usize, bytes: &[u8], size: usize) -> usize {
     let mut next = at;
     for k in 0..bytes.len() {
@@ -144,6 +144,7 @@ fn put_next(line: &mut [u8], at: usize, number: u32) -> usize {
     digits::put_decimal(line, next, number)
 }
 
+// The numbers of a run fit into 32 bits.
 fn short(number: usize) -> u32 {
     (number % 0x1_0000_0000) as u32
 }
@@ -182,7 +183,7 @@ fn put_log(line: &mut [u8], at: usize, log: &[u32], size: usize) -> usize {
     put_values(line, next, log, size)
 }
 
-// What is held after a run, and the first `size` values of the log.
+// The sequencer and the device after a run, and the first `size` values of the log.
 fn put_session(line: &mut [u8], at: usize, session: Session, log: &[u32], size: usize) -> usize {
     let device = session.device;
     let sequencer = session.sequencer;

@@ -1,4 +1,5 @@
-// One command: read, done on what is held, answered. A line that is no command leaves all as it is.
+// Reads one command, performs it on the session and prints the answer. A line that is not a command changes nothing.
+// See docs/CASES.md, "Commands".
 use crate::answer;
 use crate::runs;
 use crate::scripts;
@@ -77,7 +78,7 @@ fn event(device: Device, line: &[u8]) -> Device {
     unread(device)
 }
 
-// The bytes of a saved state; false where the line has no such bytes.
+// Reads the bytes of a saved state. Returns false if the line does not have them.
 fn state_bytes(line: &[u8], bytes: &mut [u8; state::SIZE]) -> bool {
     for k in 0..state::SIZE {
         let b = digits::byte(line, 2 + 2 * k);
@@ -111,22 +112,26 @@ fn load(device: Device, line: &[u8]) -> Device {
     device
 }
 
+// F
 fn fresh() -> Device {
     answer::fresh();
     Device::fresh()
 }
 
+// O
 fn outputs(device: Device) -> Device {
     let outputs = device.outputs();
     answer::outputs(outputs);
     device
 }
 
+// S
 fn show(device: Device) -> Device {
     answer::state(device);
     device
 }
 
+// The first byte of the line, or 0 if the line is empty.
 fn letter(line: &[u8]) -> u8 {
     if 0 < line.len() {
         return line[0];

@@ -1,4 +1,5 @@
-// Drives one device and one sequencer from a stream of commands: docs/CASES.md has the form of the stream and of the answers.
+// The program `replay` drives one device and one sequencer with commands from standard input, one on each line. This file reads the
+// lines, command.rt performs the commands, answer.rt prints. See docs/CASES.md.
 mod answer;
 mod command;
 mod runs;
@@ -9,10 +10,10 @@ mod strings;
 use crate::session::Session;
 use libc::STDIN_FILENO;
 
-// The most bytes that a line may have, and how many are read at a time.
+// The greatest length of a line, and the number of bytes read at a time.
 pub const LINE: usize = 65536;
 
-// Keeps a byte of the line and answers the line's length, which stops one past the most.
+// Stores a byte of the line and returns the length of the line, which stops at `LINE` + 1.
 fn kept(line: &mut [u8; 65536], length: usize, b: u8) -> usize {
     if length < LINE {
         line[length] = b;
@@ -21,7 +22,7 @@ fn kept(line: &mut [u8; 65536], length: usize, b: u8) -> usize {
     LINE + 1
 }
 
-// A line that is too long is no command.
+// A line that is too long is answered `UNREAD`.
 fn command_of(session: Session, line: &[u8], length: usize) -> Session {
     if length <= line.len() {
         return command::run(session, &line[..length]);
@@ -34,12 +35,12 @@ fn line_done(session: Session, line: &[u8; 65536], length: usize) -> Session {
     command_of(session, line, length)
 }
 
-// The next bytes of the stream, and how many there are.
+// Reads the next bytes of the input and returns their number.
 fn refill(chunk: &mut [u8; 65536]) -> usize {
     io::read_full(STDIN_FILENO, chunk)
 }
 
-// Reads the stream to its end. A proved loop has to end, so it counts its turns down from a number that no run uses up.
+// Reads the input to its end. A proved loop has to end, so it counts down from a number that no input uses up.
 fn main() {
     let mut chunk = [0u8; 65536];
     let mut line = [0u8; 65536];

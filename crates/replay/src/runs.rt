@@ -1,4 +1,5 @@
-// The commands that set the sequencer, run an image and run a script.
+// The commands `Q`, which sets the sequencer, `X`, which runs an image, and `T`, which compiles and runs a script.
+// See docs/CASES.md, "Runs".
 use crate::answer;
 use crate::session::Session;
 use crate::strings;
@@ -22,7 +23,7 @@ fn set_fresh(session: Session) -> Session {
     set(session, sequencer)
 }
 
-// The eight counters from a place on, and the place behind them; 0 where the line has no such numbers.
+// Reads eight loop counters from index `at` on. Returns the index after them, or 0 if the line does not have them.
 fn counters_from(line: &[u8], at: usize, counters: &mut [u32; 8]) -> usize {
     let mut next = at;
     for k in 0..8 {
@@ -68,8 +69,8 @@ pub fn set_sequencer(session: Session, line: &[u8]) -> Session {
 
 // ---- the runs
 
-// What a run is asked with: a script or an image, the budget, the log's length, and where the events and the bytes stand
-// in the line and how many there are.
+// The parts of a command: a script or an image, the budget, the length of the log, and the index and the
+// number of the events and the bytes in the line.
 struct RunRequest {
     compiles: bool,
     budget: u32,
@@ -80,21 +81,21 @@ struct RunRequest {
     bytes: usize,
 }
 
-// The log as it is lent.
+// Fills the log with a pattern, so that the answer shows which values the run leaves unchanged.
 fn lend(log: &mut [u32; 2048]) {
     for k in 0..2048 {
         log[k] = 0xA000_0000 + (k as u32);
     }
 }
 
-// What is held after a run that is not refused.
+// The session after a run that is not refused.
 fn session_of(result: RunResult) -> Session {
     let device = result.device;
     let sequencer = result.sequencer;
     Session { device, sequencer }
 }
 
-// After a refusal all is held as it was.
+// After a refusal the session is unchanged.
 fn answered(session: Session, result: RunResult, log: &[u32], size: usize) -> Session {
     if sequencer::is_refusal(result.outcome) {
         answer::run_refused(result.outcome, result.place, session, log, size);
@@ -105,8 +106,8 @@ fn answered(session: Session, result: RunResult, log: &[u32], size: usize) -> Se
     next
 }
 
-// Runs an image on what is held, or a script on the device that is held; a line that asks for more than there is room for is no
-// command.
+// Runs an image on the device and the sequencer of the session, or a script on its device. A command that is too large for
+// the buffers of `replay` is answered `UNREAD`.
 fn run_within(
     session: Session,
     request: RunRequest,

@@ -1,15 +1,15 @@
-// The command that compiles a script.
+// The command `C`, which compiles a script. See docs/CASES.md, "Commands".
 use crate::answer;
 use crate::strings;
 
-// The buffer as it is lent.
+// Fills the image buffer with a pattern, so that the answer shows which bytes the compiler leaves unchanged.
 fn lend(image: &mut [u8; 16384]) {
     for k in 0..16384 {
         image[k] = (k % 251) as u8;
     }
 }
 
-// A script or a buffer that there is no room for is no command.
+// A script or an image buffer that is too long for `replay` is answered `UNREAD`.
 fn compile_into(script: &[u8], count: usize, image: &mut [u8], length: usize) {
     if script.len() < count {
         answer::unread();

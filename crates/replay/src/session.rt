@@ -1,4 +1,4 @@
-// What is held from one command to the next.
+// The device and the sequencer that `replay` keeps from one command to the next.
 use device::Device;
 use step::Sequencer;
 

@@ -1,6 +1,6 @@
-// The byte strings of a line: where they stand, and what they hold.
+// Byte strings in a line: where they are, and their bytes. See docs/CASES.md, "Lines".
 
-// A byte string in a line: its place, how many bytes it has, and the place behind it. `ok` is false where there is none.
+// A byte string in a line: its index, the number of its bytes, and the index after it. `ok` is false if there is none.
 pub struct Bytes {
     pub ok: bool,
     pub at: usize,
@@ -8,7 +8,7 @@ pub struct Bytes {
     pub next: usize,
 }
 
-// How many hex digits stand from a place on.
+// The number of hex digits from index `at` on.
 fn digits_from(line: &[u8], at: usize) -> usize {
     for k in 0..line.len() {
         if digits::digit_at(line, digits::after(at, k)) == digits::NO_DIGIT {
@@ -42,7 +42,7 @@ fn none(at: usize) -> Bytes {
     }
 }
 
-// The byte string behind one space at a place; it has a byte or more.
+// The byte string after one space at index `at`. It has at least one byte.
 pub fn next_string(line: &[u8], at: usize) -> Bytes {
     if digits::is_space(line, at) {
         return string_at(line, digits::after(at, 1));
@@ -57,7 +57,7 @@ fn is_dash(line: &[u8], at: usize) -> bool {
     false
 }
 
-// The same, and `-` for the byte string that is empty.
+// The same, but `-` stands for an empty byte string.
 pub fn next_string_or_dash(line: &[u8], at: usize) -> Bytes {
     let start = digits::after(at, 1);
     if !is_dash(line, start) {
@@ -78,7 +78,7 @@ fn byte_at(line: &[u8], at: usize) -> u32 {
     digits::byte(line, at) % 256
 }
 
-// As many of the bytes as there is room for.
+// Copies as many of the bytes as fit.
 pub fn copy_bytes(line: &[u8], at: usize, count: usize, bytes: &mut [u8; 16384]) {
     for k in 0..16384 {
         if count <= k {
@@ -88,7 +88,7 @@ pub fn copy_bytes(line: &[u8], at: usize, count: usize, bytes: &mut [u8; 16384])
     }
 }
 
-// Four bytes, least byte first.
+// A number of four bytes, least significant byte first.
 fn number_at(line: &[u8], at: usize) -> u32 {
     let a = byte_at(line, at) % 256;
     let b = byte_at(line, digits::after(at, 2)) % 256;
@@ -97,7 +97,7 @@ fn number_at(line: &[u8], at: usize) -> u32 {
     a + 0x100 * b + 0x1_0000 * c + 0x100_0000 * d
 }
 
-// As many of the numbers, four bytes each, as there is room for.
+// Copies as many of the numbers, four bytes each, as fit.
 pub fn copy_numbers(line: &[u8], at: usize, count: usize, numbers: &mut [u32; 4352]) {
     for k in 0..4352 {
         if count <= k {

@@ -1,4 +1,4 @@
--- What is answered to a saved device, once it is known whether its bytes are a state. Assumes nothing.
+-- What is answered for a saved device, in two cases: the bytes are a device, or they are not.
 use Prim.Native.Nat.{ℕ}
 use mathlib.Core.Path.{_≡_}
 use mathlib.Core.Bool.{true, false}

@@ -1,4 +1,4 @@
--- What the exported calls answer, and what they leave in a saved state and in the slice that they are lent for their numbers.
+-- What the exported functions return, and what they leave in the saved state and in the slice `answer`. See bindings/c/runnelopal.h.
 use Prim.Native.Nat.{ℕ, suc}
 use mathlib.Core.Bool.{Bool, cond}
 use mathlib.Core.List.{List, [], _∷_}
@@ -17,26 +17,27 @@ use Rattle.sequencer.specs.declared.RunResult.{RunResult}
 use Rattle.little_endian.specs.Bytes.{flagByte}
 use Rattle.state.specs.State.{loaded, saved}
 
--- numbers one after the other from a place on; those that the slice has no room for are dropped
+-- numbers one after the other, from index k on; those that do not fit into the slice are dropped
 abbrev pub numbered : ℕ → List ℕ → List ℕ → List ℕ
 numbered k [] answer = answer
 numbered k (n ∷ ns) answer = numbered (suc k) ns (set answer k n)
 
--- an image run on a fresh device from a fresh sequencer
+-- an image, run on a fresh device with a fresh sequencer
 abbrev pub freshRun : List ℕ → List ℕ → ℕ → List ℕ → RunResult
 freshRun image events budget log = runAnswer image freshDevice freshSequencer events budget log
 
+-- the numbers in `answer` after a run; the same for outputs, accesses and events below
 abbrev pub runNumbers : RunResult → List ℕ
 runNumbers r = r .place ∷ r .steps ∷ r .taken ∷ r .logged ∷ r .sequencer .place ∷ []
 
--- a refused run leaves the state as it was
+-- a refused run leaves the state unchanged
 abbrev pub runSavedUnlessRefused : ℕ → Device → List ℕ → List ℕ
 runSavedUnlessRefused outcome d state = cond (isRefusal outcome) state (saved d state)
 
 abbrev pub outputNumbers : Outputs → List ℕ
 outputNumbers o = flagByte (o .sci) ∷ flagByte (o .smi) ∷ flagByte (o .monitor) ∷ []
 
--- ---- a saved device: bytes that are no state are refused with 11, as a state out of range is
+-- ---- a saved device: bytes that are not a device are refused with 11, like a device that is not valid
 unfoldable pub savedAccess : List ℕ → Access → LoneAccess
 savedAccess state x =
     cond (loaded state .valid) (loneAccess (loaded state .device) x) (accessRefused 11 (loaded state .device))
@@ -45,7 +46,7 @@ unfoldable pub savedEvent : List ℕ → ℕ → LoneEvent
 savedEvent state n =
     cond (loaded state .valid) (loneEvent (loaded state .device) n) (eventRefused 11 (loaded state .device))
 
--- a refusal leaves the state as it was
+-- a refusal leaves the state unchanged
 abbrev pub savedUnlessRefused : ℕ → Device → List ℕ → List ℕ
 savedUnlessRefused refusal d state = cond (eqb refusal 0) (saved d state) state
 

@@ -1,5 +1,5 @@
-// The library for programs in other languages: numbers and slices only. A call's result is its refusal, or how a run ended;
-// further numbers go into a slice that is lent for them, as many as it has room for.
+// The functions for programs in other languages. They take numbers and slices, and give an answer whatever these contain. The result
+// is 0, a refusal, or the ending of a run. Further numbers go into the slice `answer`, as many as fit. See bindings/c/runnelopal.h.
 use access::Access;
 use device::Device;
 use device::Outputs;
@@ -33,6 +33,7 @@ ghost use Rattle.runnelopal.specs.Calls.{
   runSavedUnlessRefused,
 };
 
+// Numbers that do not fit into `answer` are dropped.
 fn put(answer: &mut [u64], at: usize, number: u64)
     ensures { λ _. ⌜ now (answer .exit) ≡ set (now (answer .entry)) at number ⌝ }
 {
@@ -41,7 +42,7 @@ fn put(answer: &mut [u64], at: usize, number: u64)
     }
 }
 
-// Compiles a script into a lent image buffer. Numbers: the place of a refusal, the words written.
+// Compiles a script into the image buffer. In `answer`: the place of a refusal, the number of words.
 #[no_mangle]
 pub extern "C" fn runnelopal_compile(script: &[u8], image: &mut [u8], answer: &mut [u64]) -> u32
     ensures { λ r. ⌜ (r ≡ compileResult (now (script .entry)) (now (image .entry)) .refusal) × (now (image .exit) ≡ imageAfter (now (script .entry)) (now (image .entry))) ⌝ }
@@ -63,7 +64,7 @@ fn put_flag(answer: &mut [u64], at: usize, on: bool)
     }
 }
 
-// SCI, SMI and the monitor interrupt, from a place on.
+// SCI, SMI and the monitor interrupt, from index `at` on.
 fn put_outputs(answer: &mut [u64], at: usize, outputs: Outputs)
     requires { ⌜ at < 1000 ⌝ }
     ensures { λ _. ⌜ now (answer .exit) ≡ numbered at (outputNumbers outputs) (now (answer .entry)) ⌝ }
@@ -84,7 +85,7 @@ fn put_run(answer: &mut [u64], r: RunResult)
     put(answer, 4, sequencer.place as u64);
 }
 
-// A refused run leaves the state as it was.
+// A refused run leaves the state unchanged.
 fn save_run_unless_refused(state: &mut [u8], outcome: u32, device: Device)
     ensures { λ _. ⌜ now (state .exit) ≡ runSavedUnlessRefused outcome device (now (state .entry)) ⌝ }
 {
@@ -93,8 +94,8 @@ fn save_run_unless_refused(state: &mut [u8], outcome: u32, device: Device)
     }
 }
 
-// Runs an image on a fresh device from a fresh sequencer, and leaves the device's state in a lent slice of its size. Numbers:
-// the place of a refusal, the steps, the events taken, the values logged, the place of the sequencer.
+// Runs an image on a fresh device with a fresh sequencer, and saves the device into `state` if that has the length of a state. In
+// `answer`: the place of a refusal, the steps, the events taken, the values logged, the place of the sequencer.
 #[no_mangle]
 pub extern "C" fn runnelopal_run(
     image: &[u8],
@@ -117,7 +118,7 @@ pub extern "C" fn runnelopal_run(
     r.outcome
 }
 
-// The fresh device's state, into a slice of its size.
+// Saves the fresh device into `state`. Refuses a slice that does not have the length of a state, with 11.
 #[no_mangle]
 pub extern "C" fn runnelopal_fresh(state: &mut [u8]) -> u32
     ensures { λ r. ⌜ (r ≡ cond (eqb (length (now (state .entry))) stateSize) 0 11) × (now (state .exit) ≡ saved freshDevice (now (state .entry))) ⌝ }
@@ -148,7 +149,7 @@ fn put_event(answer: &mut [u64], r: LoneEvent)
     put_outputs(answer, 1, outputs);
 }
 
-// A refusal leaves the state as it was.
+// A refusal leaves the state unchanged.
 fn save_unless_refused(state: &mut [u8], refusal: u32, device: Device)
     ensures { λ _. ⌜ now (state .exit) ≡ savedUnlessRefused refusal device (now (state .entry)) ⌝ }
 {
@@ -157,7 +158,7 @@ fn save_unless_refused(state: &mut [u8], refusal: u32, device: Device)
     }
 }
 
-// One access to a saved device. Numbers: the place of a refusal, the status, the value, SCI, SMI, the monitor interrupt.
+// One access to a saved device. In `answer`: the place of a refusal, the status, the value, SCI, SMI, the monitor interrupt.
 #[no_mangle]
 pub extern "C" fn runnelopal_access(
     state: &mut [u8],
@@ -190,7 +191,7 @@ pub extern "C" fn runnelopal_access(
     r.refusal
 }
 
-// One event. Numbers: the place of a refusal, SCI, SMI, the monitor interrupt.
+// One event on a saved device. In `answer`: the place of a refusal, SCI, SMI, the monitor interrupt.
 #[no_mangle]
 pub extern "C" fn runnelopal_event(state: &mut [u8], number: u32, answer: &mut [u64]) -> u32
     ensures { λ r. ⌜ r ≡ savedEvent (now (state .entry)) number .refusal ⌝ }

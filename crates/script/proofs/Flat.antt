@@ -1,5 +1,5 @@
--- An accepted list of records, read as nested blocks and laid flat again, is that list: nothing is lost or added by the
--- nested reading. Also what the scan has made sure of, as a list with its open blocks. Assumes nothing.
+-- An accepted list of records, read as nested blocks and written out again, is the same list. The reading loses nothing and adds
+-- nothing. Also what the scan has checked, as a property of the list (`Accepted`) and of the nested blocks (`Good`).
 use Prim.Native.Nat.{ℕ, zero, suc, _≤_, _<_}
 use mathlib.Core.Path.{_≡_, refl, sym, ap, _∙_}
 use mathlib.Core.Bool.{Bool, true, false, cond, true≢false, _&&_}
@@ -19,14 +19,14 @@ use Rattle.script.specs.Refusals.{badFields, badKind, badLength, firstFa
 use Rattle.outcome.specs.Refusal.{refusal}
 use Rattle.outcome.specs.declared.Refusal.{Refusal}
 
--- the records of all that is read
+-- the records of a reading, as a list
 abbrev pub unread : Reading → List Record
 unread (top b) = flat b []
 unread (closedByEnd b n) = flat b (endRecord ∷ unread n)
 unread (closedByElse b n) = flat b (elseRecord ∷ unread n)
 unread broken = []
 
--- ---- the open blocks: a repeat, an if still without an else, an if with its else
+-- ---- the open blocks: a repeat, an if that has no else yet, an if after its else
 pub data Block : Type 0 where
   looped : Block
   unelsed : Block
@@ -41,7 +41,7 @@ abbrev pub numbers : List Block → List ℕ
 numbers [] = []
 numbers (b ∷ bs) = number b ∷ numbers bs
 
--- a list of records with no fault, from a place on where these blocks are open
+-- a list of records that has no fault if these blocks are open before it
 pub data Accepted : List Block → List Record → Type 0 where
   over : Accepted [] []
   writes : {w p v : ℕ} {bs : List Block} {rs : List Record} → isWidth w ≡ true → fitsWidth w v ≡ true → Accepted bs rs
@@ -59,7 +59,7 @@ pub data Accepted : List Block → List Record → Type 0 where
   elses : {bs : List Block} {rs : List Record} → Accepted (withElse ∷ bs) rs → Accepted (unelsed ∷ bs) (elseRecord ∷ rs)
   ends : {b : Block} {bs : List Block} {rs : List Record} → Accepted bs rs → Accepted (b ∷ bs) (endRecord ∷ rs)
 
--- ---- what a record without a fault shows
+-- ---- what holds of a record without a fault
 pub record Passed (blocks : List ℕ) (r : Record) : Type 0 where
   pub marked : r .mark ≡ 0xA55A
   pub least : 1 ≤ r .kind
@@ -88,7 +88,7 @@ passed blocks r h =
 abbrev whole : (m k w p t v : ℕ) → Record
 whole m k w p t v = record { mark = m; kind = k; width = w; port = p; target = t; value = v }
 
--- the fields of a record that uses a count, and of one that uses none
+-- the fields of a record that uses only a count, and of a record that uses no field
 pub count-fields : (w p v : ℕ) → (eqb w 0 && (eqb p 0 && leb v 65535)) ≡ true → (w ≡ 0) × (p ≡ 0) × (v ≤ 65535)
 count-fields w p v h =
     let a = both (eqb w 0) (eqb p 0 && leb v 65535) h in
@@ -101,7 +101,7 @@ no-fields w p v h =
     let b = both (eqb p 0) (eqb v 0) (a .1) in
     (eqb-true w 0 (a .0), eqb-true p 0 (b .0), eqb-true v 0 (b .1))
 
--- a record without a fault in front of an accepted list
+-- a record without a fault, followed by an accepted list, makes an accepted list
 module _ (m w p t v : ℕ) (rs : List Record) where
   goes : (k : ℕ) (bs : List Block) → Passed (numbers bs) (whole m k w p t v)
       → ((cs : List Block) → openAfter (numbers bs) k ≡ numbers cs → Accepted cs rs)
@@ -139,13 +139,14 @@ module _ (m w p t v : ℕ) (rs : List Record) where
       rw (h .marked, h .untargeted, f .0, f .1, f .2) (ends (next bs refl))
   goes (suc (suc (suc (suc (suc (suc (suc (suc k)))))))) bs h next = absurd (omega arith)
 
+-- if the chosen refusal has number 0, it is the first one, because the number of the second is not 0
 pub stops :
     (t : Bool) (a b : Refusal) → (t ≡ false → b .number ≡ 0 → ⊥) → cond t a b .number ≡ 0
     → (t ≡ true) × (a .number ≡ 0)
 stops true a b n h = (refl, h)
 stops false a b n h = absurd (n refl h)
 
--- a list without a fault
+-- a list without a fault is accepted
 pub accepted :
     (rs : List Record) (bs : List Block) (place : ℕ) → firstFault (numbers bs) place rs .number ≡ 0 → Accepted bs rs
 accepted [] [] place h = over
@@ -160,7 +161,7 @@ accepted (r ∷ rs) bs place h =
     (passed blocks r (eqb-true (recordFault blocks r) 0 (s .0)))
     (λ cs e. accepted rs cs (suc place) (rw e at (s .1)))
 
--- ---- what the nested reading keeps of all that: a body inside so many repeats
+-- ---- what the scan has checked, as a property of a body inside k repeats
 pub data Good : ℕ → Body → Type 0 where
   good-done : {k : ℕ} → Good k done
   good-write : {k p w v : ℕ} {rest : Body} → isWidth w ≡ true → fitsWidth w v ≡ true → Good k rest
@@ -173,7 +174,7 @@ pub data Good : ℕ → Body → Type 0 where
   good-ifElse : {k p w m : ℕ} {b c rest : Body} → isWidth w ≡ true → fitsWidth w m ≡ true → Good k b → Good k c
       → Good k rest → Good k (ifElse p w m b c rest)
 
--- a reading that closes just these blocks
+-- a reading that closes exactly these blocks
 data Closes : List Block → Reading → Type 0 where
   by-top : {b : Body} → Good 0 b → Closes [] (top b)
   by-end : {b : Body} {o : Block} {bs : List Block} {n : Reading} → Good (repeatsIn (numbers (o ∷ bs))) b → Closes bs n
@@ -181,7 +182,7 @@ data Closes : List Block → Reading → Type 0 where
   by-else : {b : Body} {bs : List Block} {n : Reading} → Good (repeatsIn (numbers bs)) b → Closes (withElse ∷ bs) n
       → Closes (unelsed ∷ bs) (closedByElse b n)
 
--- a record put in front of a reading is put in front of its first body, and of its records
+-- a record in front of a reading is in front of its first body (`in-front`) and of its records (`laid`)
 in-front : (f : Body → Body) {bs : List Block} {n : Reading}
     → ((b : Body) → Good (repeatsIn (numbers bs)) b → Good (repeatsIn (numbers bs)) (f b))
     → Closes bs n → Closes bs (before f n)
@@ -272,15 +273,15 @@ whole-of rs h = let i = reads-all (accepted rs [] 0 h) in whole-top (i .closes) 
 pub reading-top : (rs : List Record) → firstFault [] 0 rs .number ≡ 0 → readingOf rs ≡ top (bodyIn (readingOf rs))
 reading-top rs h = whole-of rs h .is-top
 
--- an accepted list is its body laid flat
+-- an accepted list is the list of the records of its body
 pub reading-flat : (rs : List Record) → firstFault [] 0 rs .number ≡ 0 → rs ≡ flat (bodyIn (readingOf rs)) []
 reading-flat rs h = whole-of rs h .is-flat
 
--- and its body keeps the widths, values and depths that the scan made sure of
+-- the body has the widths, values and depths that the scan has checked
 pub reading-good : (rs : List Record) → firstFault [] 0 rs .number ≡ 0 → Good 0 (bodyIn (readingOf rs))
 reading-good rs h = whole-of rs h .is-good
 
--- ---- the same of a script
+-- ---- the same for the bytes of a script
 settles :
     (a t b : Bool) (f : Refusal) (place : ℕ) → (t ≡ false → f .number ≡ 0 → ⊥) → (t ≡ true → f .number ≡ 0)
     → cond a (refusal 1 0) (cond t (cond b (refusal 8 place) (refusal 0 0)) f) .number ≡ 0
@@ -295,6 +296,7 @@ pub record Accepts (bytes : List ℕ) : Type 0 where
   pub faultless : firstFault [] 0 (recordsOf bytes) .number ≡ 0
   pub few-words : wordsIn bytes ≤ 1024
 
+-- a script that is not refused passes every check
 pub accepts : (bytes : List ℕ) → scriptRefusal bytes .number ≡ 0 → Accepts bytes
 unfolding scriptRefusal
 accepts bytes h =
@@ -303,7 +305,7 @@ accepts bytes h =
     (eqb-false (f .number) 0) (eqb-true (f .number) 0) h in
     record { length-good = s .0; faultless = s .1; few-words = ltb-false 1024 (wordsIn bytes) (s .2) }
 
--- and the other way
+-- the converse: a script that passes every check is not refused
 pub accepted-by :
     (bytes : List ℕ) → badLength bytes ≡ false → firstFault [] 0 (recordsOf bytes) .number ≡ 0 → wordsIn bytes ≤ 1024
     → scriptRefusal bytes .number ≡ 0

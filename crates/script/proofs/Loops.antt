@@ -1,5 +1,5 @@
--- The body of an accepted list: no repeat inside eight repeats, and the widths and values that document 01 asks for.
--- Assumes nothing.
+-- The body of an accepted list has no repeat inside 8 repeats, and its widths, values and counts are those that the rules allow.
+-- This is `Good`, as two separate properties.
 use Prim.Native.Nat.{ℕ, suc, _≤_, _<_}
 use mathlib.Core.Path.{_≡_}
 use mathlib.Core.Bool.{true}
@@ -10,7 +10,7 @@ use Rattle.script.specs.Nested.{Body, done, write, read, delay, repeat, 
 use Rattle.script.specs.Refusals.{firstFault}
 use Rattle.script.proofs.Flat.{Good, good-done, good-write, good-read, good-delay, good-repeat, good-if, good-ifElse, reading-good}
 
--- so many repeats are open around the body; inside it a repeat stands inside at most 7
+-- a body inside k repeats has no repeat inside more than 7 others
 abbrev pub loopsWithin : ℕ → Body → Type 0
 loopsWithin k done = Unit {0}
 loopsWithin k (write p w v rest) = loopsWithin k rest
@@ -20,7 +20,7 @@ loopsWithin k (repeat n b rest) = (k < 8) × loopsWithin (suc k) b × loopsWithi
 loopsWithin k (if p w m b rest) = loopsWithin k b × loopsWithin k rest
 loopsWithin k (ifElse p w m b c rest) = loopsWithin k b × loopsWithin k c × loopsWithin k rest
 
--- every width is a width, every value fits it, every count is up to 65,535
+-- every width is 1, 2 or 4, every value fits its width, and every count is at most 65,535
 abbrev pub fieldsWithin : Body → Type 0
 fieldsWithin done = Unit {0}
 fieldsWithin (write p w v rest) = (isWidth w ≡ true) × (fitsWidth w v ≡ true) × fieldsWithin rest

@@ -1,4 +1,4 @@
--- The records of a script from a place on, as a loop meets them; how many there are, and where they lie. Assumes nothing.
+-- The records of a script, as a loop reads them one by one; their number, and that they lie within the bytes.
 use Prim.Native.Nat.{ℕ, suc, _+_, _-_, _*_, _%_, _≤_, _<_}
 use mathlib.Core.Path.{_≡_}
 use mathlib.Core.Bool.{false, not}
@@ -14,7 +14,7 @@ use Rattle.script.specs.Records.{recordCount, recordsFrom}
 use Rattle.script.specs.Refusals.{badLength, scriptRefusal}
 use Rattle.script.proofs.Flat.{accepts}
 
--- record k, and the rest
+-- the records from place k on are record k and those from place k + 1 on
 pub from-here : (bytes : List ℕ) (count k : ℕ) → k < count
     → recordsFrom (count - k) k bytes ≡ recordAt bytes (recordSize * k) ∷ recordsFrom (count - (k + 1)) (k + 1) bytes
 from-here bytes count k h =
@@ -29,7 +29,7 @@ after-last bytes count k h =
 pub few-records : (bytes : List ℕ) → badLength bytes ≡ false → recordCount bytes ≤ 1024
 few-records bytes h = ltb-false 1024 (recordCount bytes) (neither (not (eqb (length bytes % recordSize) 0)) _ h .1)
 
--- so many records are allowed, and lie in the script
+-- this number of records is allowed, and they lie within the script
 pub record Counted (script : List ℕ) (count : ℕ) : Type 0 where
   pub few : count ≤ 1024
   pub lies : recordSize * count ≤ length script

@@ -1,7 +1,6 @@
--- The scan's loop. A record's fault is that of its shape, of its place, or of the repeats around it, in this order. Before each
--- record the fault and the words of the whole script are those of the records left (`ScanInvariant`): a fault ends the scan with its
--- number and place, a good record leaves the same for the next, and behind the last one only a block still open is a fault.
--- Assumes nothing.
+-- The loop of the scan. A record is checked by itself, then by its place, then by the repeats around it. Before each record
+-- `ScanInvariant` holds: the fault and the words of the whole script follow from the records that are left. A fault ends the scan with
+-- its number and place, a record without a fault keeps the invariant, and after the last record only an open block is a fault.
 use Prim.Native.Nat.{ℕ, zero, suc, _+_, _-_, _*_, _≤_, _<_}
 use mathlib.Core.Path.{_≡_, refl, sym, ap, _∙_}
 use mathlib.Core.Bool.{Bool, true, false, cond, _&&_, _||_, or-true}
@@ -24,7 +23,7 @@ use Rattle.script.specs.Scan.{OpenArray, full, placeFault, recordsScan, 
 use Rattle.script.specs.declared.ScanResult.{ScanResult}
 use Rattle.script.proofs.Records.{after-last, from-here}
 
--- ---- a record's fault, from what it shows by itself and from the open blocks
+-- ---- the fault of a record, from the record itself and from the open blocks
 pub fault-parts : (blocks : List ℕ) (r : Record) →
     recordFault blocks r
     ≡ cond (eqb (shapeFault r) 0) (cond (misplaced blocks (r .kind)) 5 (cond (tooDeep blocks (r .kind)) 6 0)) (shapeFault r)
@@ -38,7 +37,7 @@ fault-parts blocks r = pick (wrongMark r) (badKind r) (badFields r) (cond (mispl
     pick false false true n = refl
     pick false false false n = refl
 
--- ---- the walk over the open blocks
+-- ---- counting the repeats among the open blocks
 one-more : (b : Bool) (n : ℕ) → cond b (suc n) n ≡ n + cond b 1 0
 one-more true n = sym (add-one n)
 one-more false n = omega arith
@@ -58,7 +57,7 @@ repeats-within n (suc m) xs =
     let e : n + suc m ≡ suc (n + m) = omega arith in
     rw e (grows (eqb (getD xs (n + m) 0) 4) (repeatsIn (stackOf (n + m) xs)) (repeatsIn (stackOf n xs)) (repeats-within n m xs))
 
--- ---- a record's fault by its parts
+-- ---- the fault of a record, check by check
 module _ (blocks : List ℕ) (r : Record) where
   pub shape-first : (n : ℕ) → n ≡ shapeFault r → (n ≡ 0 → ⊥) → recordFault blocks r ≡ n
   shape-first n e z = fault-parts blocks r ∙ (rw (← e, ne-eqb n 0 z))
@@ -74,7 +73,7 @@ module _ (blocks : List ℕ) (r : Record) where
       pick false true t q = sym q
       pick false false t q = absurd (z q)
 
--- a record with no fault of its place is not misplaced, and opens no block inside 16
+-- a record without a fault of its place is not misplaced, and opens no block inside 16
 pub placed : (blocks : List ℕ) (depth kind : ℕ) → placeFault (stackOf depth blocks) kind ≡ 0
     → (misplaced (stackOf depth blocks) kind ≡ false) × (full depth kind ≡ false)
 unfolding placeFault
@@ -82,7 +81,7 @@ placed blocks depth kind h =
     let none = none-from (misplaced (stackOf depth blocks) kind ∷ full depth kind ∷ []) 5 (omega arith) (rw (stack-length depth blocks) at h) in
     (none 0, none 1)
 
--- a write, a read or a delay may stand anywhere
+-- writes, reads and delays are allowed anywhere
 pub anywhere : (blocks : List ℕ) (kind : ℕ) → kind ≤ 3 → placeFault blocks kind ≡ 0
 unfolding placeFault
 anywhere blocks kind h = simp (
@@ -101,7 +100,7 @@ ninth-repeat blocks depth n r s e h eight =
     fault-parts (stackOf depth blocks) r
     ∙ (rw (s, e, le-leb 8 (repeatsIn (stackOf depth blocks)) l, or-true (leb 16 (length (stackOf depth blocks)))))
 
--- a record with no fault of its own or of its place has none, if a repeat's walk finds fewer than 8 repeats
+-- a record that has no fault by itself and by its place has no fault, if fewer than 8 repeats are counted
 pub good : (blocks : List ℕ) (depth : ℕ) (r : Record) → shapeFault r ≡ 0 → placeFault (stackOf depth blocks) (r .kind) ≡ 0
     → repeatsIn (stackOf (cond (eqb (r .kind) 4) depth 0) blocks) < 8 → recordFault (stackOf depth blocks) r ≡ 0
 good blocks depth r s p few =
@@ -117,7 +116,7 @@ pub walk-within : (b : Bool) (d : ℕ) → cond b d 0 ≤ d
 walk-within true d = omega arith
 walk-within false d = omega arith
 
--- a walk that takes a step is a repeat's
+-- repeats are counted only for a record that is a repeat
 pub walks : (kind d b : ℕ) → b < cond (eqb kind 4) d 0 → kind ≡ 4
 walks kind d b h = pick (eqb kind 4) refl h
   where
@@ -125,7 +124,7 @@ walks kind d b h = pick (eqb kind 4) refl h
     pick true e l = eqb-true kind 4 e
     pick false e l = absurd (omega arith)
 
--- ---- what holds before record k of so many
+-- ---- the loop invariant: what holds before record k of `count` records
 pub record ScanInvariant (bytes : List ℕ) (count : ℕ) (blocks : List ℕ) (depth words number k : ℕ) : Type 0 where
   pub kept : OpenArray blocks depth
   pub inside : k ≤ count
@@ -137,7 +136,7 @@ pub record ScanInvariant (bytes : List ℕ) (count : ℕ) (blocks : List ℕ) (d
       ≡ suc (wordCount [] (recordsFrom count 0 bytes))
   pub few : words ≤ suc k
 
--- before the first record
+-- the invariant holds before the first record
 pub starts : (bytes : List ℕ) (count : ℕ) (blocks : List ℕ) → length blocks ≡ 16 → ScanInvariant bytes count blocks 0 1 0 0
 starts bytes count blocks l =
     let z : count - 0 ≡ count = omega arith in
@@ -158,7 +157,7 @@ pub at-most-one : (b : Bool) → cond b 1 0 ≤ 1
 at-most-one true = omega arith
 at-most-one false = omega arith
 
--- ---- what the scan answers, and how a record leads to the next
+-- ---- what the scan returns, and how the invariant goes from one record to the next
 pub scan-faulted : (bytes : List ℕ) (count number k : ℕ) → count ≡ recordCount bytes
     → firstFault [] 0 (recordsFrom count 0 bytes) ≡ refusal number k → (number ≡ 0 → ⊥) → refusalAt number k ≡ recordsScan bytes
 unfolding recordsScan recordsOf
@@ -171,7 +170,7 @@ module _ (bytes : List ℕ) (count : ℕ) (blocks : List ℕ) (depth words numbe
   faulty r n h q e z =
       g .fault ∙ ap (firstFault (stackOf depth blocks) k) (from-here bytes count k h) ∙ (rw (rw q at e, ne-eqb n 0 z))
 
-  -- a good record
+  -- a record without a fault keeps the invariant
   pub further : (r : Record) (later : List ℕ) (next clear : ℕ) → k < count → r ≡ recordAt bytes (recordSize * k) → OpenArray later next
       → clear ≡ 0 → recordFault (stackOf depth blocks) r ≡ 0 → stackOf next later ≡ openAfter (stackOf depth blocks) (r .kind)
       → ScanInvariant bytes count later next (words + cond (emitsWord (stackOf depth blocks) (r .kind)) 1 0) clear (k + 1)
@@ -206,7 +205,7 @@ module _ (bytes : List ℕ) (count : ℕ) (blocks : List ℕ) (depth words numbe
       let w : words ≡ wordCount [] (recordsFrom count 0 bytes) = omega arith in
       rw (w, ← e, f, z)
 
--- a list of records with no fault has no place either
+-- if a list of records has no fault, the place is 0 too
 pub clean : (rs : List Record) (blocks : List ℕ) (place : ℕ) → firstFault blocks place rs .number ≡ 0
     → firstFault blocks place rs ≡ refusal 0 0
 clean [] blocks place h = pick (eqb (innermost blocks) 0) h
@@ -223,7 +222,7 @@ clean (r ∷ rs) blocks place h =
     pick true t f k e = k e
     pick false t f k e = absurd (eqb-false (recordFault blocks r) 0 t e)
 
--- ---- refusals 1 and 8 around the records' own
+-- ---- refusals 1 and 8, which come before and after those of the records
 pub scan-length : (bytes : List ℕ) → badLength bytes ≡ true
     → refusalAt 1 0 ≡ scriptScan bytes
 unfolding scriptScan scriptRefusal

@@ -1,12 +1,12 @@
--- Document 01, "Scripts and images": which fields a kind uses. "Unused fields are zero." "Values of kinds 3 and 4 are 0 to
--- 65,535; of 1 and 5 they fit the width."
+-- Which fields a kind of record or word uses, without the target. See docs/CHIP.md, "Scripts" and "Words".
+-- "Unused fields are zero." "Values of kinds 3 and 4 are 0 to 65,535; of 1 and 5 they fit the width."
 use Prim.Native.Nat.{ℕ}
 use mathlib.Core.Bool.{Bool, cond, _&&_, _||_}
 use lib.Dec.{eqb, leb}
 use Rattle.record.specs.declared.Record.{Record}
 use Rattle.width.specs.Width.{fitsWidth, isWidth}
 
--- port, width and a value that fits it: write, if; word 6, test
+-- port, width and a value that fits the width: write, if; word 6 (test)
 abbrev pub valueFields : Record → Bool
 valueFields r = isWidth (r .width) && fitsWidth (r .width) (r .value)
 
@@ -14,15 +14,15 @@ valueFields r = isWidth (r .width) && fitsWidth (r .width) (r .value)
 abbrev pub readFields : Record → Bool
 readFields r = isWidth (r .width) && eqb (r .value) 0
 
--- a value up to 65,535: delay, repeat; word 4, enter
+-- a value of at most 65,535: delay, repeat; word 4 (enter)
 abbrev pub countFields : Record → Bool
 countFields r = eqb (r .width) 0 && (eqb (r .port) 0 && leb (r .value) 65535)
 
--- none: else, end; words 5, 7 and 8
+-- no field: else, end; words 5 (loop end), 7 (jump) and 8 (halt)
 abbrev pub noFields : Record → Bool
 noFields r = eqb (r .width) 0 && (eqb (r .port) 0 && eqb (r .value) 0)
 
--- by the kind; the kind that tests is 5 in a script, if, and 6 in an image, test
+-- the check by kind; `tests` is the kind that reads and tests: 5 (if) in a script, 6 (test) in an image
 abbrev pub kindFields : ℕ → Record → Bool
 kindFields tests r =
     cond (eqb (r .kind) 1 || eqb (r .kind) tests) (valueFields r)

@@ -1,4 +1,5 @@
--- The nested reading of a list of records: blocks within blocks.
+-- A script as a tree: the list of records is read as nested blocks. `scriptBody` is the tree of a script. The meaning of a script
+-- (`semantics`) and the words of the compiler are defined on it. See docs/CHIP.md, "Scripts".
 use Prim.Native.Nat.{ℕ}
 use mathlib.Core.Bool.{cond}
 use mathlib.Core.List.{List, [], _∷_}
@@ -6,7 +7,7 @@ use lib.Dec.{eqb}
 use Rattle.record.specs.declared.Record.{Record}
 use Rattle.script.specs.Records.{recordsOf}
 
--- records in order at one level; the last argument is what follows
+-- the records of one level, in order; the last argument is what follows on this level
 pub data Body : Type 0 where
   done : Body
   write : (port width value : ℕ) → Body → Body
@@ -16,33 +17,36 @@ pub data Body : Type 0 where
   if : (port width mask : ℕ) → Body → Body → Body
   ifElse : (port width mask : ℕ) → Body → Body → Body → Body
 
--- what is read from a place on: a body up to the end of the list, or up to an end or an else that closes a block opened
--- before that place, and what follows it
+-- the result of reading the list from some record on: a body up to the end of the list (`top`), or a body up to an end or an else of a
+-- block that was opened earlier, and what is read after that; `broken` if the blocks do not match
 pub data Reading : Type 0 where
   top : Body → Reading
   closedByEnd : Body → Reading → Reading
   closedByElse : Body → Reading → Reading
   broken : Reading
 
--- a record put in front of what is read behind it
+-- puts a record in front of what was read after it
 abbrev pub before : (Body → Body) → Reading → Reading
 before f (top b) = top (f b)
 before f (closedByEnd b n) = closedByEnd (f b) n
 before f (closedByElse b n) = closedByElse (f b) n
 before f broken = broken
 
+-- a repeat takes the body up to its end
 abbrev pub readRepeat : ℕ → Reading → Reading
 readRepeat times (closedByEnd b n) = before (repeat times b) n
 readRepeat times (top b) = broken
 readRepeat times (closedByElse b n) = broken
 readRepeat times broken = broken
 
+-- after the else of an if, its second part is the body up to its end
 abbrev pub readElse : ℕ → ℕ → ℕ → Body → Reading → Reading
 readElse port width mask b (closedByEnd c n) = before (ifElse port width mask b c) n
 readElse port width mask b (top c) = broken
 readElse port width mask b (closedByElse c n) = broken
 readElse port width mask b broken = broken
 
+-- an if takes the body up to its end or its else
 abbrev pub readIf : ℕ → ℕ → ℕ → Reading → Reading
 readIf port width mask (closedByEnd b n) = before (if port width mask b) n
 readIf port width mask (closedByElse b n) = readElse port width mask b n
@@ -62,7 +66,7 @@ abbrev pub readingOf : List Record → Reading
 readingOf [] = top done
 readingOf (r ∷ rs) = readRecord r (readingOf rs)
 
--- the body of a script that is accepted; the other readings are of lists that are not
+-- the body of an accepted script; the other cases occur only in scripts that are refused
 abbrev pub bodyIn : Reading → Body
 bodyIn (top b) = b
 bodyIn (closedByEnd b n) = done
@@ -72,7 +76,7 @@ bodyIn broken = done
 unfoldable pub scriptBody : List ℕ → Body
 scriptBody bytes = bodyIn (readingOf (recordsOf bytes))
 
--- ---- a body laid flat again: its records, and then a tail
+-- ---- the way back: the records of a body as a list, followed by the list `tl`
 abbrev pub scriptRecord : (kind width port value : ℕ) → Record
 scriptRecord k w p v = record { mark = 0xA55A; kind = k; width = w; port = p; target = 0; value = v }
 

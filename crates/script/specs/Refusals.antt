@@ -1,4 +1,5 @@
--- Document 01's refusal table, rows 1 to 8, each its own definition, and the order in which they are given.
+-- Refusals 1 to 8 of a script: one definition for each row of the table, and the order of the checks (`scriptRefusal`).
+-- See docs/CHIP.md, "Refusals".
 use Prim.Native.Nat.{ℕ, suc, _%_}
 use mathlib.Core.Bool.{Bool, cond, not, _&&_, _||_}
 use mathlib.Core.List.{List, [], _∷_}
@@ -32,7 +33,7 @@ goodFields r = eqb (r .target) 0 && kindFields 5 r
 abbrev pub badFields : Record → Bool
 badFields r = not (goodFields r)
 
--- ---- the open blocks, innermost first: 4 a repeat, 5 an if still without an else, 6 an if with its else
+-- ---- the open blocks, innermost first: 4 is a repeat, 5 an if that has no else yet, 6 an if after its else
 abbrev pub innermost : List ℕ → ℕ
 innermost [] = 0
 innermost (b ∷ bs) = b
@@ -45,13 +46,13 @@ abbrev pub repeatsIn : List ℕ → ℕ
 repeatsIn [] = 0
 repeatsIn (b ∷ bs) = cond (eqb b 4) (suc (repeatsIn bs)) (repeatsIn bs)
 
--- the open blocks behind a record
+-- the open blocks after a record of this kind
 abbrev pub openAfter : List ℕ → ℕ → List ℕ
 openAfter blocks kind =
     cond (eqb kind 4) (4 ∷ blocks)
     (cond (eqb kind 5) (5 ∷ blocks) (cond (eqb kind 6) (6 ∷ outer blocks) (cond (eqb kind 7) (outer blocks) blocks)))
 
--- 5: "else not in an if still without one; end with no open block"; "in" means the innermost open block
+-- 5: "else not in an if still without one; end with no open block"; "in" means in the innermost open block
 abbrev pub misplaced : List ℕ → ℕ → Bool
 misplaced blocks kind =
     (eqb kind 6 && not (eqb (innermost blocks) 5)) || (eqb kind 7 && eqb (innermost blocks) 0)
@@ -67,7 +68,7 @@ abbrev pub tooDeep : List ℕ → ℕ → Bool
 tooDeep blocks kind =
     ((eqb kind 4 || eqb kind 5) && leb mostBlocks (length blocks)) || (eqb kind 4 && leb mostRepeats (repeatsIn blocks))
 
--- the least number that a record meets, or 0
+-- the smallest number of the refusals of a record, or 0
 unfoldable pub recordFault : List ℕ → Record → ℕ
 recordFault blocks r =
     firstFrom number.wrongMark (wrongMark r ∷ badKind r ∷ badFields r ∷ misplaced blocks (r .kind) ∷ tooDeep blocks (r .kind) ∷ [])
@@ -83,6 +84,7 @@ firstFault blocks place (r ∷ rs) =
 abbrev pub emitsWord : List ℕ → ℕ → Bool
 emitsWord blocks kind = not (eqb kind 7) || eqb (innermost blocks) 4
 
+-- the words of these records, and the halt
 abbrev pub wordCount : List ℕ → List Record → ℕ
 wordCount blocks [] = 1
 wordCount blocks (r ∷ rs) =

@@ -1,4 +1,5 @@
-// Scripts: document 01, "Scripts and images". The scan gives refusals 1 to 8, or how many words the script has.
+// Checks a script: refusals 1 to 8, or the number of words that the compiler makes from it. The compiler calls `scan` first. The
+// checks of fields also serve words, in `step`. See docs/CHIP.md, "Scripts" and "Refusals".
 use record::Record;
 ghost use mathlib.Core.Path.{_≡_};
 ghost use mathlib.Core.Bool.{cond};
@@ -19,13 +20,14 @@ ghost use Rattle.script.specs.Scan.{
   shapeFault,
 };
 
-// What a scan finds: a refusal with its place, or number 0 and how many words the script gives.
+// The result of a scan: a refusal with its place, or number 0 and the number of words.
 pub struct ScanResult {
     pub number: u32,
     pub place: u32,
     pub words: u32,
 }
 
+// The kinds of records.
 pub const WRITE: u32 = 1;
 
 pub const READ: u32 = 2;
@@ -40,21 +42,21 @@ pub const ELSE: u32 = 6;
 
 pub const END: u32 = 7;
 
-// The open blocks: a repeat, an if still without an else, an if with its else.
+// The open blocks: a repeat, an if that has no else yet, an if after its else.
 const OPEN_REPEAT: u8 = 4;
 
 const OPEN_IF: u8 = 5;
 
 const OPEN_ELSE: u8 = 6;
 
-// At most this many blocks are open at once, and at most this many of them are repeats.
+// At most this many blocks may be open at once, and at most this many of them may be repeats.
 pub const MOST_BLOCKS: usize = 16;
 
 const MOST_REPEATS: u32 = 8;
 
 const MOST_WORDS: u32 = Record::MOST as u32;
 
-// The fields that a kind uses, without the target.
+// Width, port, and a value that fits the width: write, if, and the word test. The target is not checked here.
 pub fn value_fields(r: Record) -> bool
     ensures { λ b. ⌜ b ≡ valueFields r ⌝ }
 {
@@ -64,6 +66,7 @@ pub fn value_fields(r: Record) -> bool
     false
 }
 
+// Width and port: read.
 pub fn read_fields(r: Record) -> bool
     ensures { λ b. ⌜ b ≡ readFields r ⌝ }
 {
@@ -73,6 +76,7 @@ pub fn read_fields(r: Record) -> bool
     false
 }
 
+// A value of at most 65,535: delay, repeat, and the word enter.
 pub fn count_fields(r: Record) -> bool
     ensures { λ b. ⌜ b ≡ countFields r ⌝ }
 {
@@ -85,6 +89,7 @@ pub fn count_fields(r: Record) -> bool
     r.value <= 65535
 }
 
+// No field: else, end, and the words loop end, jump and halt.
 pub fn no_fields(r: Record) -> bool
     ensures { λ b. ⌜ b ≡ noFields r ⌝ }
 {
@@ -97,7 +102,8 @@ pub fn no_fields(r: Record) -> bool
     r.value == 0
 }
 
-// The fields of a kind that scripts and images share; `tests` is the kind that reads and tests, 5 in a script and 6 in an image.
+// Checks the fields of a record or a word by its kind. `tests` is the kind that reads and
+// tests: 5 (if) in a script, 6 (test) in an image.
 pub fn kind_fields(r: Record, tests: u32) -> bool
     ensures { λ b. ⌜ b ≡ kindFields tests r ⌝ }
 {
@@ -114,6 +120,7 @@ pub fn kind_fields(r: Record, tests: u32) -> bool
     }
 }
 
+// A record of a script uses no target.
 fn good_fields(r: Record) -> bool
     ensures { λ b. ⌜ b ≡ goodFields r ⌝ }
 {
@@ -123,7 +130,7 @@ fn good_fields(r: Record) -> bool
     kind_fields(r, IF)
 }
 
-// What a record shows by itself: 2, 3 or 4, or 0.
+// The fault that a record has by itself: 2, 3 or 4, or 0 if there is none.
 fn shape_fault(r: Record) -> u32
     ensures { λ n. ⌜ n ≡ shapeFault r ⌝ }
 {
@@ -142,9 +149,9 @@ fn shape_fault(r: Record) -> u32
     outcome::BAD_FIELD
 }
 
-// ---- the open blocks: the first `depth` of an array, innermost last
+// ---- the open blocks: the first `depth` elements of an array, the innermost last
 
-// The innermost open block, or 0.
+// The innermost open block, or 0 if no block is open.
 fn innermost(blocks: &[u8; MOST_BLOCKS], depth: usize) -> u8
     requires { ⌜ depth ≤ mostBlocks ⌝ }
     ensures { λ r. ⌜ r ≡ innermost (stackOf depth (now (blocks .entry))) ⌝ }
@@ -156,7 +163,7 @@ fn innermost(blocks: &[u8; MOST_BLOCKS], depth: usize) -> u8
     blocks[at]
 }
 
-// An else that is not in an if still without one, or an end with no open block.
+// Refusal 5: an else, and the innermost open block is not an if that has no else yet; or an end, and no block is open.
 fn is_misplaced(blocks: &[u8; MOST_BLOCKS], depth: usize, kind: u32) -> bool
     requires { ⌜ depth ≤ mostBlocks ⌝ }
     ensures { λ r. ⌜ r ≡ misplaced (stackOf depth (now (blocks .entry))) kind ⌝ }
@@ -171,7 +178,7 @@ fn is_misplaced(blocks: &[u8; MOST_BLOCKS], depth: usize, kind: u32) -> bool
     false
 }
 
-// A block opened inside 16.
+// A part of refusal 6: a repeat or an if inside 16 open blocks.
 fn is_full(depth: usize, kind: u32) -> bool
     ensures { λ r. ⌜ r ≡ full depth kind ⌝ }
 {
@@ -184,7 +191,7 @@ fn is_full(depth: usize, kind: u32) -> bool
     false
 }
 
-// What a record shows by its place, but for the repeats around it: 5, 6, or 0.
+// The fault that a record has by its place: 5 or 6, or 0 if there is none. It does not count repeats; `scan_records` does.
 fn place_fault(blocks: &[u8; MOST_BLOCKS], depth: usize, kind: u32) -> u32
     requires { ⌜ depth ≤ mostBlocks ⌝ }
     ensures { λ r. ⌜ r ≡ placeFault (stackOf depth (now (blocks .entry))) kind ⌝ }
@@ -198,7 +205,7 @@ fn place_fault(blocks: &[u8; MOST_BLOCKS], depth: usize, kind: u32) -> u32
     0
 }
 
-// How many open blocks a record of this kind has to look at: a repeat at all of them.
+// How many open blocks are searched for repeats: all of them for a repeat, otherwise none.
 fn walk(depth: usize, kind: u32) -> usize
     ensures { λ r. ⌜ r ≡ cond (eqb kind 4) depth 0 ⌝ }
 {
@@ -208,7 +215,7 @@ fn walk(depth: usize, kind: u32) -> usize
     0
 }
 
-// What a block adds to the repeats that a walk counts.
+// 1 for a repeat, otherwise 0.
 fn is_repeat(block: u8) -> u32
     ensures { λ r. ⌜ r ≡ cond (eqb block 4) 1 0 ⌝ }
 {
@@ -218,7 +225,7 @@ fn is_repeat(block: u8) -> u32
     0
 }
 
-// Does a record of this kind give a word? The end of an if gives none.
+// The number of words that a record makes: 0 for the end of an if, otherwise 1.
 fn emits_word(blocks: &[u8; MOST_BLOCKS], depth: usize, kind: u32) -> u32
     requires { ⌜ depth ≤ mostBlocks ⌝ }
     ensures { λ r. ⌜ r ≡ cond (emitsWord (stackOf depth (now (blocks .entry))) kind) 1 0 ⌝ }
@@ -229,7 +236,7 @@ fn emits_word(blocks: &[u8; MOST_BLOCKS], depth: usize, kind: u32) -> u32
     is_repeat(innermost(blocks, depth))
 }
 
-// Opens, changes or closes a block as a record that is well placed asks; the depth behind it.
+// Opens, changes or closes a block for a record that has no fault of its place. Returns the depth after the record.
 fn update_blocks(blocks: &mut [u8; MOST_BLOCKS], depth: usize, kind: u32) -> usize
     requires { ⌜ OpenArray (now blocks) depth ⌝ }
     requires { ⌜ placeFault (stackOf depth (now blocks)) kind ≡ 0 ⌝ }
@@ -255,7 +262,7 @@ fn update_blocks(blocks: &mut [u8; MOST_BLOCKS], depth: usize, kind: u32) -> usi
 
 // ---- the scan
 
-// A refusal has no words.
+// With a refusal, the number of words is 0.
 fn refusal_at(number: u32, place: usize) -> ScanResult
     requires { ⌜ place ≤ mostRecords ⌝ }
     ensures { λ r. ⌜ r ≡ refusalAt number place ⌝ }
@@ -267,7 +274,7 @@ fn refusal_at(number: u32, place: usize) -> ScanResult
     }
 }
 
-// Refusals 2 to 7, or how many words the records give.
+// Refusals 2 to 7, or the number of words, the halt included.
 fn scan_records(script: &[u8], count: usize) -> ScanResult
     requires { ⌜ (count ≤ mostRecords) × (count ≡ length (now script) / recordSize) ⌝ }
     ensures { λ r. ⌜ r ≡ recordsScan (now (script .entry)) ⌝ }
@@ -284,7 +291,7 @@ fn scan_records(script: &[u8], count: usize) -> ScanResult
         if number != 0 {
             break 'scan;
         }
-        // A write, a read or a delay may stand anywhere, and most records are such: their place is not looked at.
+        // Writes, reads and delays are allowed anywhere. Most records are of these kinds, so their place is not checked.
         if DELAY < kind {
             number = place_fault(&blocks, depth, kind);
             if number != 0 {
@@ -319,7 +326,7 @@ fn scan_records(script: &[u8], count: usize) -> ScanResult
     }
 }
 
-// Refusal 1.
+// Refusal 1: the length is not a multiple of 12, or there are more than 1,024 records.
 fn bad_length(script: &[u8]) -> bool
     ensures { λ r. ⌜ r ≡ badLength (now (script .entry)) ⌝ }
 {
@@ -329,7 +336,7 @@ fn bad_length(script: &[u8]) -> bool
     Record::MOST < script.len() / Record::SIZE
 }
 
-// Refusals 1 to 8, or how many words the script gives.
+// Refusals 1 to 8, or the number of words, the halt included.
 pub fn scan(script: &[u8]) -> ScanResult
     ensures { λ r. ⌜ r ≡ scriptScan (now (script .entry)) ⌝ }
 {

@@ -1,4 +1,5 @@
--- Each access of a script's own run takes one event, as long as there are any, and nothing else takes one. Assumes nothing.
+-- Each access of a script takes one event from the list, as long as there are any, and only accesses take events. The
+-- proof goes through the script record by record.
 use Prim.Native.Nat.{ℕ, zero, suc}
 use mathlib.Core.Path.{_≡_, refl, sym, ap, _∙_}
 use mathlib.Core.Bool.{Bool, true, false, cond}
@@ -24,7 +25,7 @@ use Rattle.semantics.specs.World.{
   afterWrite,
 }
 
--- the events left are those behind one for each access
+-- the events left: the list without its first n events, for n accesses made
 abbrev pub OneEach : List ℕ → World → Type 0
 OneEach all w = w .events ≡ drop (length (w .accesses)) all
 
@@ -86,6 +87,7 @@ own-one all (ifElse p w m b c rest) r h =
     own-one all rest _
     (either-one all (sharesOne p w m (r .world)) (countStep (ownRun b t)) (ownRun c t) (own-one all b t k) (own-one all c t k))
 
+-- the law for a whole script
 pub one-event-each :
     (script : List ℕ) (d : Device) (events : List ℕ) → OneEach events (scriptRun script d events .world)
 unfolding scriptRun

@@ -1,5 +1,7 @@
--- Document 01, "Scripts and images": "The script's own run is fed the records, a device and an event list; it has no words,
--- budget or log size. It holds device, events left, values logged, accesses and steps, the last three none at first."
+-- What a script means: its records run in order on a device and an event list. `scriptRun` is the complete definition.
+-- See docs/CHIP.md, "What a script means".
+-- "The script's own run is fed the records, a device and an event list; it has no words, budget or log size. It holds device, events
+-- left, values logged, accesses and steps, the last three none at first."
 use Prim.Native.Nat.{ℕ, zero, suc}
 use mathlib.Core.Bool.{cond}
 use mathlib.Core.List.{List}
@@ -14,15 +16,15 @@ pub record Run : Type 0 where
 abbrev pub run : World → ℕ → Run
 run w n = record { world = w; steps = n }
 
--- one step that does this to the world
+-- one step that changes the world by `f`
 abbrev pub oneStep : (World → World) → Run → Run
 oneStep f r = run (f (r .world)) (suc (r .steps))
 
--- one step that does nothing to it: the step of a repeat, of each of its turns, of a then-part that has an else, of the end
+-- one step that does not change the world: of a repeat, of each turn, of a then-part that has an else, and of the end
 abbrev pub countStep : Run → Run
 countStep r = run (r .world) (suc (r .steps))
 
--- so many turns, each the body "and 1"
+-- n turns; each has the steps of the body "and 1"
 abbrev pub repeatTimes : ℕ → (Run → Run) → Run → Run
 repeatTimes zero body r = r
 repeatTimes (suc n) body r = repeatTimes n body (countStep (body r))

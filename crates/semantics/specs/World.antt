@@ -1,5 +1,5 @@
--- Document 01, "Scripts and images": what a write, a read, a test and a delay do, for the sequencer and for the script's
--- own run alike.
+-- What one write, read, test or delay does to the device, the events and the log. The meaning of a script (OwnRun.antt) and the
+-- sequencer (`step`) both use these definitions. See docs/CHIP.md, "What a script means".
 use Prim.Native.Nat.{ℕ}
 use mathlib.Core.Bool.{Bool, true, false}
 use mathlib.Core.List.{List, [], _∷_, _++_}
@@ -19,14 +19,14 @@ pub record AccessEntry : Type 0 where
   pub answer : Answer
   pub outputs : Outputs
 
--- "device, events left, values logged, accesses"; values and accesses in the order in which they were
+-- "device, events left, values logged, accesses"; the values and accesses are in the order in which they were made
 pub record World : Type 0 where
   pub device : Device
   pub events : List ℕ
   pub logged : List ℕ
   pub accesses : List AccessEntry
 
--- nothing logged, no access made
+-- at the start nothing is logged, and no access has been made
 abbrev pub startWorld : Device → List ℕ → World
 startWorld d events = record { device = d; events = events; logged = []; accesses = [] }
 
@@ -35,6 +35,7 @@ abbrev pub afterNextEvent : Device → List ℕ → Device
 afterNextEvent d [] = d
 afterNextEvent d (e ∷ es) = applyEvent d e
 
+-- the events that are left after one was taken
 abbrev pub eventsAfter : List ℕ → List ℕ
 eventsAfter [] = []
 eventsAfter (e ∷ es) = es
@@ -42,10 +43,11 @@ eventsAfter (e ∷ es) = es
 abbrev pub writeOf : (port width value : ℕ) → Access
 writeOf p w v = record { write = true; width = w; port = p; value = v }
 
--- a read's access, and a test's
+-- the access of a read or a test
 abbrev pub readOf : (port width : ℕ) → Access
 readOf p w = record { write = false; width = w; port = p; value = 0 }
 
+-- the answer to an access, after the next event
 abbrev pub answerTo : World → Access → AccessResult
 answerTo w x = deviceAccess (afterNextEvent (w .device) (w .events)) x
 
@@ -64,7 +66,7 @@ afterAccess w x values = record {
 unfoldable pub afterWrite : (port width value : ℕ) → World → World
 afterWrite p wd v w = afterAccess w (writeOf p wd v) []
 
--- at any status
+-- the value that a read or a test returns, at any status
 unfoldable pub valueRead : (port width : ℕ) → World → ℕ
 valueRead p wd w = answerTo w (readOf p wd) .answer .value
 

@@ -1,5 +1,5 @@
--- A state that is saved and loaded is the device again, and bytes that a device can hold are saved as they were loaded: each
--- block's own law, at its part. Assumes nothing.
+-- Loading what was saved returns the device, and saving what was loaded returns the bytes. Both follow from the laws of the
+-- blocks, each applied to the part of its block.
 use Prim.Native.Nat.{ℕ, _+_, _<_}
 use mathlib.Core.Path.{_≡_, refl, ap, sym, _∙_}
 use mathlib.Core.Bool.{Bool, true}
@@ -33,14 +33,14 @@ use Rattle.state.specs.State.{
 }
 use Rattle.state.specs.declared.LoadResult.{LoadResult}
 
--- every block's fields fit their types
+-- the fields of every block fit their types
 pub record Typed (d : Device) : Type 0 where
   pub config : of-config.Typed (d .config)
   pub key : of-key.Typed (d .key)
   pub monitor : of-monitor.Typed (d .monitor)
   pub acpi : of-acpi.Typed (d .acpi)
 
--- the bytes after the configuration's, the key's and the monitor's
+-- the bytes after those of the monitor, of the key and of the configuration
 abbrev afterMonitor : Device → List ℕ
 afterMonitor d = acpiBytes (d .acpi)
 
@@ -51,6 +51,7 @@ abbrev afterConfig : Device → List ℕ
 afterConfig d = keyBytes (d .key) ++ afterKey d
 
 module _ (d : Device) where
+  -- the bytes of each block are found at its start
   config-part : part 0 configSize (stateBytes d) ≡ configBytes (d .config)
   unfolding stateBytes
   config-part = front-part (configBytes (d .config)) (afterConfig d) configSize (of-config.bytes-length (d .config))
@@ -107,7 +108,7 @@ module _ (d : Device) where
         of-acpi.load-back (d .acpi) (t .acpi),
       )
 
-  -- as `load` reads what `save` wrote
+  -- the same for `load`, which also checks the length
   pub load-back : Typed d → loaded (stateBytes d) ≡ record { valid = true; device = d }
   unfolding loaded loadedFrom
   load-back t =
@@ -121,6 +122,7 @@ four-equal : {a b c d a′ b′ c′ d′ : List ℕ} → a ≡ a′ → b ≡ b
 four-equal p q r s = rw (p, q, r, s)
 
 module _ (bs : List ℕ) (n : length bs ≡ stateSize) where
+  -- the parts of the four blocks make up the whole list
   joined : part 0 configSize bs ++ (part keyStart keySize bs ++ (part monitorStart monitorSize bs ++ part acpiStart acpiSize bs)) ≡ bs
   joined =
       let size : length (drop acpiStart bs) ≡ acpiSize = length-drop acpiStart bs ∙ omega (arith, n) in

@@ -1,4 +1,5 @@
--- A slice of the state's size takes a state whole and is read whole; one of another length does neither. Assumes nothing.
+-- `save` and `load` on slices of any length: a slice of `stateSize` bytes is written or read as a whole. Any other slice is
+-- unchanged by `save` and not valid for `load`.
 use Prim.Native.Nat.{ℕ, _+_, _≤_}
 use mathlib.Core.Path.{_≡_, sym, _∙_}
 use mathlib.Core.List.{List, [], append-nil}
@@ -11,7 +12,7 @@ use Rattle.state.proofs.RoundTrip.{state-length}
 use Rattle.state.specs.State.{loaded, loadedFrom, refused, saved, stateBytes, stateSize}
 use Rattle.state.specs.declared.LoadResult.{LoadResult}
 
--- a part as long as the list that it is put into takes the place of all of it
+-- pasting a list of the same length at index 0 replaces the whole list
 pub whole : (lent part : List ℕ) → length part ≡ length lent → paste lent 0 part (length part) ≡ part
 whole lent part e =
     let behind : length lent ≤ 0 + length part = omega arith in

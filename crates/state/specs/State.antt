@@ -1,5 +1,5 @@
--- docs/STATE.md: a device as bytes, block after block in the order of its table, and back. What each block's bytes are is its
--- own definition.
+-- A saved device: the bytes of the blocks, one block after the other, and the way back. Each block defines its own bytes, in
+-- `specs/Saved.antt` of its crate. See docs/STATE.md.
 use Prim.Native.Nat.{ℕ, _+_}
 use mathlib.Core.Bool.{Bool, false, cond}
 use mathlib.Core.List.{List, [], _∷_, _++_}
@@ -32,7 +32,7 @@ unfoldable pub stateBytes : Device → List ℕ
 stateBytes d = configBytes (d .config) ++ (keyBytes (d .key) ++ (monitorBytes (d .monitor) ++ acpiBytes (d .acpi)))
 
 -- ---- bytes as a device
--- so many bytes from a start on
+-- `size` bytes from index `start` on
 abbrev pub part : ℕ → ℕ → List ℕ → List ℕ
 part start size bytes = take size (drop start bytes)
 
@@ -44,7 +44,7 @@ deviceFrom bytes = record {
   key = keyFrom (part keyStart keySize bytes);
 }
 
--- can a device hold these bytes? Any bytes are key bytes
+-- can a device hold these bytes? The key can hold any bytes
 abbrev pub savedTests : List ℕ → List Bool
 savedTests bytes =
     configSaved (part 0 configSize bytes) ∷ monitorSaved (part monitorStart monitorSize bytes) ∷ acpiSaved (part acpiStart acpiSize bytes) ∷ []
@@ -55,7 +55,7 @@ isSaved bytes = allHold (savedTests bytes)
 unfoldable pub loadedFrom : List ℕ → LoadResult
 loadedFrom bytes = record { valid = isSaved bytes; device = deviceFrom bytes }
 
--- ---- a slice of any length: only one of the state's size takes or gives a state
+-- ---- slices of any length: only a slice of `stateSize` bytes can hold a state
 unfoldable pub saved : Device → List ℕ → List ℕ
 saved d bytes = cond (eqb (length bytes) stateSize) (stateBytes d) bytes
 

@@ -1,4 +1,4 @@
-// A saved device: the blocks' own bytes, one after the other (docs/STATE.md), and back.
+// Saves a device as 106 bytes, block after block, and loads it again. `runnelopal` and `replay` use it. See docs/STATE.md.
 use acpi::Acpi;
 use config::Config;
 use device::Device;
@@ -10,7 +10,7 @@ ghost use lib.ListN.{length};
 ghost use lib.Seq.{paste};
 ghost use Rattle.state.specs.State.{stateBytes, stateSize, loadedFrom, saved, loaded};
 
-// Where each block's bytes start, and how many there are in all.
+// Where the bytes of each block start, and the length of a saved state.
 const KEY_START: usize = Config::SIZE;
 
 const MONITOR_START: usize = KEY_START + Key::SIZE;
@@ -19,13 +19,13 @@ const ACPI_START: usize = MONITOR_START + Monitor::SIZE;
 
 pub const SIZE: usize = ACPI_START + Acpi::SIZE;
 
-// A device read from bytes; `valid` is false where no device can hold such a state.
+// The device that was read. `valid` is false if no device can hold the bytes, for example if a flag is neither 0 nor 1.
 pub struct LoadResult {
     pub valid: bool,
     pub device: Device,
 }
 
-// A part's bytes at a place; the others are as lent.
+// Copies `part` into `bytes` at index `at`. The other bytes are unchanged.
 fn put(bytes: &mut [u8], at: usize, part: &[u8])
     requires { ⌜ at + length (now part) ≤ length (now bytes) ⌝ }
     ensures { λ _. ⌜ now (bytes .exit) ≡ paste (now (bytes .entry)) at (now (part .entry)) (length (now (part .entry))) ⌝ }
@@ -70,7 +70,7 @@ pub fn device_of(bytes: &[u8; SIZE]) -> LoadResult
     read_from(bytes)
 }
 
-// Writes the state into a slice of its size; one of another length is left as it is.
+// Writes the state into a slice of `SIZE` bytes. A slice of any other length is unchanged.
 pub fn save(device: Device, bytes: &mut [u8])
     ensures { λ _. ⌜ now (bytes .exit) ≡ saved device (now (bytes .entry)) ⌝ }
 {
@@ -79,7 +79,7 @@ pub fn save(device: Device, bytes: &mut [u8])
     }
 }
 
-// The state in a slice; of a slice of another length it is not valid.
+// Reads the state from a slice. A slice that is not `SIZE` bytes long is not valid.
 pub fn load(bytes: &[u8]) -> LoadResult
     ensures { λ r. ⌜ r ≡ loaded (now (bytes .entry)) ⌝ }
 {

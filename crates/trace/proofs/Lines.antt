@@ -1,4 +1,4 @@
--- Lines behind lines, the values that are left to print, and that the text is whole. Assumes nothing.
+-- The text that `trace` prints, line by line: the lines of the values that are left, and that the buffer has room for the whole text.
 use Prim.Native.Nat.{ℕ, zero, suc, _*_, _≤_, _<_}
 use mathlib.Core.Path.{_≡_, refl, ap, sym, _∙_}
 use mathlib.Core.Bool.{Bool, true, false, cond}
@@ -12,6 +12,7 @@ use Rattle.sequencer.specs.Run.{isRefusal}
 use Rattle.sequencer.specs.declared.RunResult.{RunResult}
 use Rattle.trace.specs.Printed.{endText, numbersText, printed, readText, readsText, refusedText}
 
+-- two numbers put one after the other are the text of both
 pub numbers-put : (first second : ℕ) (l : Line)
     → put 0x0A (puts (decimalText second) (put 0x20 (puts (decimalText first) l))) ≡ puts (numbersText first second) l
 numbers-put first second l =
@@ -20,6 +21,7 @@ numbers-put first second l =
     ∙ puts-both (decimalText second) (0x0A ∷ []) (put 0x20 (puts (decimalText first) l))
     )
 
+-- the first n values of a log are at most n values, and at most the whole log
 at-most : (n : ℕ) (l : List ℕ) → (length (take n l) ≤ n) × (length (take n l) ≤ length l)
 at-most zero l = (omega arith, omega arith)
 at-most (suc n) [] = (omega arith, omega arith)
@@ -31,7 +33,7 @@ inside (suc n) [] k a b = b
 inside (suc n) (x ∷ l) zero a b = omega arith
 inside (suc n) (x ∷ l) (suc k) a b = let h = inside n l k (omega (arith, a)) (omega (arith, b)) in omega (arith, h)
 
--- the next value's line, and those behind it
+-- the line of the next value, and the lines after it
 pub next-line : (n : ℕ) (log : List ℕ) (k : ℕ) (l : Line) → k < n → k < length log
     → puts (readsText (drop (suc k) (take n log))) (puts (readText (getD log k 0)) l) ≡ puts (readsText (drop k (take n log))) l
 next-line n log k l a b =
@@ -48,7 +50,7 @@ all-printed n log k l h =
     let m = at-most n log in
     ap (λ (vs : List ℕ). puts (readsText vs) l) (drop-of-length-le (take n log) {i = k} (omega (arith, m .1, h)))
 
--- ---- "Output whole": 14,400 bytes are room for the longest text
+-- ---- the longest text has at most 14,400 bytes, so the buffer has room for it
 reads-length : (vs : List ℕ) → length (readsText vs) ≡ 14 * length vs
 reads-length [] = refl
 reads-length (v ∷ vs) = let h = reads-length vs in omega (arith, h)
@@ -81,6 +83,7 @@ printed-length r log h = pick (isRefusal (r .outcome))
     pick true = refusal
     pick false = run
 
+-- the text is put completely: the index after it is its length
 pub whole : (text : List ℕ) (r : RunResult) (log : List ℕ) → length text ≡ 14400 → length log ≤ 1024
     → puts (printed r log) (lineAt text 0) .at ≡ length (printed r log)
 whole text r log l h =

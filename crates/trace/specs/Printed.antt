@@ -1,4 +1,4 @@
--- Document 01, "Cases to prove (P) and to run": what the tracing program prints.
+-- What the program `trace` prints: a line for each logged value and a line with the ending, or one line with the refusal.
 use Prim.Native.Nat.{ℕ}
 use mathlib.Core.Bool.{cond}
 use mathlib.Core.List.{List, [], _∷_, _++_}
@@ -15,7 +15,7 @@ abbrev pub readsText : List ℕ → List ℕ
 readsText [] = []
 readsText (v ∷ vs) = readText v ++ readsText vs
 
--- two numbers and the line's end
+-- two decimal numbers and a line feed
 abbrev pub numbersText : ℕ → ℕ → List ℕ
 numbersText first second = decimalText first ++ (0x20 ∷ (decimalText second ++ (0x0A ∷ [])))
 

@@ -1,4 +1,4 @@
-// What `trace` prints, written whole.
+// The output of `trace`. The whole text is put into a buffer and written at once. specs/Printed.antt defines it.
 use libc::STDOUT_FILENO;
 use sequencer::RunResult;
 ghost use mathlib.Core.Path.{_≡_};
@@ -20,7 +20,7 @@ fn put_read(text: &mut [u8], at: usize, value: u32) -> usize
     digits::put(text, b, b'\n')
 }
 
-// A line for each of the first `logged` values.
+// Puts a line for each of the first `logged` values.
 fn put_reads(text: &mut [u8], log: &[u32], logged: usize) -> usize
     ensures { λ r. ⌜ lineAt (now (text .exit)) r ≡ puts (readsText (take logged (now (log .entry)))) (lineAt (now (text .entry)) 0) ⌝ }
 {
@@ -34,7 +34,7 @@ fn put_reads(text: &mut [u8], log: &[u32], logged: usize) -> usize
     next
 }
 
-// Two decimal numbers and the end of the line.
+// Puts two decimal numbers and a line feed.
 fn put_numbers(text: &mut [u8], at: usize, first: u32, second: u32) -> usize
     ensures { λ r. ⌜ lineAt (now (text .exit)) r ≡ puts (numbersText first second) (lineAt (now (text .entry)) at) ⌝ }
 {
@@ -58,7 +58,7 @@ fn put_end(text: &mut [u8], outcome: u32, steps: u32, at: usize) -> usize
     put_numbers(text, a, outcome, steps)
 }
 
-// The whole text, and how long it is.
+// Puts the whole text and returns its length.
 fn put_result(text: &mut [u8], result: RunResult, log: &[u32]) -> usize
     ensures { λ r. ⌜ lineAt (now (text .exit)) r ≡ puts (printed result (now (log .entry))) (lineAt (now (text .entry)) 0) ⌝ }
 {
@@ -69,7 +69,7 @@ fn put_result(text: &mut [u8], result: RunResult, log: &[u32]) -> usize
     put_end(text, result.outcome, result.steps, at)
 }
 
-// There is room for the lines of 1,024 values, of 14 bytes each, and the last one.
+// The buffer has room for 1,024 lines of 14 bytes and the last line.
 pub fn print(result: RunResult, log: &[u32]) {
     let mut text = [0u8; 14400];
     let end = put_result(&mut text, result, log);

@@ -1,4 +1,5 @@
-// Runs the script on standard input on the fresh device, and prints what it reads and how it ends, or its refusal.
+// The program `trace` runs the script on standard input on the fresh device. It prints the values that are logged and the ending, or
+// the refusal. See docs/CHIP.md, "Runs".
 mod answer;
 
 use device::Device;
@@ -15,7 +16,7 @@ fn trace(script: &[u8]) {
     answer::print(result, &log);
 }
 
-// The buffer takes one record more than a script may have, so a script that fills it is refused as the whole input is.
+// The buffer has room for one record more than a script may have. Longer input is cut off there, and is still refused with 1.
 fn main() {
     let mut script = [0u8; 12300];
     let count = io::read_full(STDIN_FILENO, &mut script);

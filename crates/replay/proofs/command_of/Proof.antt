@@ -1,4 +1,4 @@
--- `replay::command_of` meets its contract. Assumes nothing.
+-- `command_of` is safe and ends: the line is sliced only after the check that the length lies within it.
 use mathlib.Core.Path.{sym}
 use lib.Seq.{length-take-le}
 use borrow.Author.Needs.{needs}

@@ -1,4 +1,4 @@
--- `replay::main` meets its contract. Assumes nothing.
+-- `main` is safe and ends: `turns` counts down to 0.
 use borrow.Author.Needs.{needs}
 use Rattle.replay.proofs.main.Statement.{statement}
 use Rattle.replay.proofs.main.Tie as tie

@@ -1,4 +1,4 @@
--- `runnelopal::put` meets its contract. Assumes nothing.
+-- `put` sets one number, or changes nothing if the index is outside the slice.
 use lib.Seq.{set-out}
 use mathlib.Core.Path.{sym}
 use borrow.Author.Needs.{needs}

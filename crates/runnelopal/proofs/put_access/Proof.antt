@@ -1,4 +1,4 @@
--- `runnelopal::put_access` meets its contract. Assumes nothing.
+-- `put_access` writes `accessNumbers` from index 0 on, one number after the other.
 use borrow.Author.Needs.{needs}
 use Rattle.runnelopal.proofs.put_access.Statement.{statement}
 use Rattle.runnelopal.proofs.put_access.Tie as tie

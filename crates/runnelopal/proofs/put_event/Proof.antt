@@ -1,4 +1,4 @@
--- `runnelopal::put_event` meets its contract. Assumes nothing.
+-- `put_event` writes `eventNumbers` from index 0 on, one number after the other.
 use borrow.Author.Needs.{needs}
 use Rattle.runnelopal.proofs.put_event.Statement.{statement}
 use Rattle.runnelopal.proofs.put_event.Tie as tie

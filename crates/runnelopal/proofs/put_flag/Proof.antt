@@ -1,4 +1,4 @@
--- `runnelopal::put_flag` meets its contract. Assumes nothing.
+-- `put_flag` writes 1 for true and 0 for false.
 use borrow.Author.Needs.{needs}
 use Rattle.runnelopal.proofs.put_flag.Statement.{statement}
 use Rattle.runnelopal.proofs.put_flag.Tie as tie

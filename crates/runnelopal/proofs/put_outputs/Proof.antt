@@ -1,4 +1,4 @@
--- `runnelopal::put_outputs` meets its contract. Assumes nothing.
+-- `put_outputs` writes `outputNumbers` from index `at` on. The bound on `at` keeps the sums from overflowing.
 use native.Mathlib.Omega.{arith}
 use mathlib.Core.Path.{_≡_, _∙_}
 use Prim.Native.Nat.{suc, _+_}

@@ -1,4 +1,4 @@
--- `runnelopal::put_run` meets its contract. Assumes nothing.
+-- `put_run` writes `runNumbers` from index 0 on, one number after the other.
 use borrow.Author.Needs.{needs}
 use Rattle.runnelopal.proofs.put_run.Statement.{statement}
 use Rattle.runnelopal.proofs.put_run.Tie as tie

@@ -1,5 +1,5 @@
--- `runnelopal::runnelopal_access` meets its contract: bytes that are no state are refused, and else the device answers.
--- Assumes nothing.
+-- `runnelopal_access` returns and saves what `savedAccess` says: bytes that are not a device are
+-- refused, and otherwise the device answers.
 use Rattle.device.specs.declared.lone.LoneAccess.{LoneAccess}
 use mathlib.Core.Path.{ap, _∙_}
 use borrow.Author.Needs.{needs}

@@ -1,4 +1,4 @@
--- `runnelopal::runnelopal_compile` meets its contract. Assumes nothing.
+-- `runnelopal_compile` returns the result of `compile` and leaves the image buffer as `compile` does.
 use Rattle.compiler.specs.declared.CompileResult.{CompileResult}
 use mathlib.Core.Path.{ap, _∙_}
 use borrow.Author.Needs.{needs}

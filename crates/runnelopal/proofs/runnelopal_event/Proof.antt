@@ -1,5 +1,5 @@
--- `runnelopal::runnelopal_event` meets its contract: bytes that are no state are refused, and else the device answers.
--- Assumes nothing.
+-- `runnelopal_event` returns and saves what `savedEvent` says: bytes that are not a device are
+-- refused, and otherwise the device answers.
 use Rattle.device.specs.declared.lone.LoneEvent.{LoneEvent}
 use mathlib.Core.Path.{ap, _∙_}
 use borrow.Author.Needs.{needs}

@@ -1,4 +1,4 @@
--- `runnelopal::runnelopal_fresh` meets its contract. Assumes nothing.
+-- `runnelopal_fresh` saves the fresh device, and refuses a slice of any other length.
 use Rattle.state.specs.State.{saved}
 use mathlib.Core.Path.{_∙_}
 use borrow.Author.Tests.{eq-eqb, ne-eqb}

@@ -1,4 +1,5 @@
--- `runnelopal::runnelopal_run` meets its contract. Assumes nothing.
+-- `runnelopal_run` returns the result of `run` on a fresh device with a fresh sequencer, and
+-- saves the device unless the run is refused.
 use Rattle.sequencer.specs.declared.RunResult.{RunResult}
 use mathlib.Core.Path.{ap, _∙_}
 use borrow.Author.Needs.{needs}

@@ -1,4 +1,4 @@
--- `runnelopal::save_run_unless_refused` meets its contract. Assumes nothing.
+-- `save_run_unless_refused` saves the device unless the outcome is a refusal.
 use mathlib.Core.Path.{sym, _∙_}
 use borrow.Author.Tests.{not-false, not-true}
 use borrow.Author.Needs.{needs}

@@ -1,4 +1,4 @@
--- `runnelopal::save_unless_refused` meets its contract. Assumes nothing.
+-- `save_unless_refused` saves the device unless there is a refusal.
 use borrow.Author.Tests.{eq-eqb, ne-eqb}
 use borrow.Author.Needs.{needs}
 use Rattle.runnelopal.proofs.save_unless_refused.Statement.{statement}

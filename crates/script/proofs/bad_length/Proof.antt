@@ -1,4 +1,4 @@
--- `script::bad_length` meets its contract. Assumes nothing.
+-- `bad_length` returns `badLength`: the same two tests in the same order.
 use borrow.Author.Tests.{eq-eqb, ne-eqb}
 use Rattle.script.proofs.bad_length.Statement.{statement}
 use Rattle.script.proofs.bad_length.Tie as tie

@@ -1,4 +1,4 @@
--- `script::count_fields` meets its contract. Assumes nothing.
+-- `count_fields` returns `countFields`: the same tests in the same order.
 use borrow.Author.Tests.{eq-eqb, ne-eqb}
 use Rattle.script.proofs.count_fields.Statement.{statement}
 use Rattle.script.proofs.count_fields.Tie as tie

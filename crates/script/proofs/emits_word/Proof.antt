@@ -1,4 +1,4 @@
--- `script::emits_word` meets its contract. Assumes nothing.
+-- `emits_word` returns 1 exactly if `emitsWord` holds: an end makes a word only if the innermost block is a repeat.
 use borrow.Author.Tests.{eq-eqb, ne-eqb}
 use borrow.Author.Needs.{needs}
 use Rattle.script.proofs.emits_word.Statement.{statement}

@@ -1,4 +1,4 @@
--- `script::good_fields` meets its contract. Assumes nothing.
+-- `good_fields` returns `goodFields`: the target is 0, and the other fields are checked by kind.
 use borrow.Author.Needs.{needs}
 use borrow.Author.Tests.{eq-eqb, ne-eqb}
 use Rattle.script.proofs.good_fields.Statement.{statement}

@@ -1,4 +1,4 @@
--- `script::innermost` meets its contract. Assumes nothing.
+-- `innermost` returns the definition `innermost`: the top of the stack is the last element in use.
 use Prim.Native.Nat.{_<_}
 use native.Mathlib.Omega.{arith}
 use Rattle.lists.proofs.Stack.{stack-top}

@@ -1,4 +1,4 @@
--- `script::is_full` meets its contract. Assumes nothing.
+-- `is_full` returns `full`: the depth counts only for the kinds that open a block.
 use borrow.Author.Tests.{eq-eqb, ne-eqb}
 use Rattle.script.proofs.is_full.Statement.{statement}
 use Rattle.script.proofs.is_full.Tie as tie

@@ -1,4 +1,4 @@
--- `script::is_misplaced` meets its contract. Assumes nothing.
+-- `is_misplaced` returns `misplaced`: only an else and an end can be misplaced.
 use mathlib.Core.Path.{sym}
 use mathlib.Core.Bool.{or-false}
 use borrow.Author.Tests.{eq-eqb, ne-eqb}

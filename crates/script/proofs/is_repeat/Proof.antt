@@ -1,4 +1,4 @@
--- `script::is_repeat` meets its contract. Assumes nothing.
+-- `is_repeat` returns 1 exactly if the block is a repeat.
 use borrow.Author.Tests.{eq-eqb, ne-eqb}
 use Rattle.script.proofs.is_repeat.Statement.{statement}
 use Rattle.script.proofs.is_repeat.Tie as tie

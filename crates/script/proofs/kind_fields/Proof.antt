@@ -1,4 +1,4 @@
--- `script::kind_fields` meets its contract. Assumes nothing.
+-- `kind_fields` returns `kindFields`: each kind has its own check.
 use borrow.Author.Needs.{needs}
 use borrow.Author.Tests.{eq-eqb, ne-eqb}
 use mathlib.Core.Bool.{or-true}

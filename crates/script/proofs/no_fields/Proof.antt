@@ -1,4 +1,4 @@
--- `script::no_fields` meets its contract. Assumes nothing.
+-- `no_fields` returns `noFields`: the same tests in the same order.
 use borrow.Author.Tests.{eq-eqb, ne-eqb}
 use Rattle.script.proofs.no_fields.Statement.{statement}
 use Rattle.script.proofs.no_fields.Tie as tie

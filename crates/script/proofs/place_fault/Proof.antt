@@ -1,4 +1,4 @@
--- `script::place_fault` meets its contract. Assumes nothing.
+-- `place_fault` returns `placeFault`: 5 is checked before 6.
 use mathlib.Core.Path.{sym, _∙_}
 use Rattle.lists.proofs.Stack.{stack-length}
 use Rattle.script.specs.Scan.{placeFault}

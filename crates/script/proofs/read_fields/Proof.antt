@@ -1,4 +1,4 @@
--- `script::read_fields` meets its contract. Assumes nothing.
+-- `read_fields` returns `readFields`: the same tests in the same order.
 use borrow.Author.Needs.{needs}
 use Rattle.script.proofs.read_fields.Statement.{statement}
 use Rattle.script.proofs.read_fields.Tie as tie

@@ -1,4 +1,4 @@
--- `script::scan` meets its contract. Assumes nothing.
+-- `scan` returns `scriptScan`: refusal 1, then those of the records, then 8.
 use mathlib.Core.Path.{refl, sym, _∙_}
 use Rattle.script.proofs.Records.{few-records}
 use Rattle.script.proofs.Scanning.{scan-length, scan-long, scan-refused, scan-whole}

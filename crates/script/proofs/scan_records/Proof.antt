@@ -1,4 +1,5 @@
--- `script::scan_records` meets its contract. Assumes nothing.
+-- `scan_records` returns `recordsScan`. The outer loop keeps `ScanInvariant`. The inner loop keeps the number of repeats among
+-- the first `b` open blocks, which is below 8.
 use Prim.Native.Nat.{ℕ, _+_, _-_, _≤_, _<_}
 use mathlib.Core.Path.{_≡_, refl, sym, _∙_}
 use mathlib.Core.Bool.{cond}
@@ -62,11 +63,11 @@ shape-fault-requires c κs = search needs
 place-fault-requires : tie.Need-place-fault-requires Inv-loop μ-loop Inv-scan μ-scan
 place-fault-requires c κs = c .before .before .before .before .before .before .scan .inv .kept .deep
 
--- the blocks that are open where a record has been read
+-- the open blocks when a record has been read
 abbrev openAt : tie.After-read Inv-loop μ-loop Inv-scan μ-scan → List ℕ
 openAt c = stackOf (c .before .before .scan .depth) (c .before .before .scan .blocks)
 
--- a record that goes on has no fault of its place: a write, a read or a delay never, another by the test
+-- a record that passes has no fault of its place: writes, reads and delays never have one, and the others are tested
 settled : (c : tie.Joined2 Inv-loop μ-loop Inv-scan μ-scan)
     → (placeFault (openAt (c .before .before .before)) (c .before .before .before .read .result .kind) ≡ 0) × (c .if2 .number ≡ 0)
 settled c =
@@ -116,7 +117,7 @@ loop-again c =
       i .3,
     )
 
--- a record that the walk lets through has no fault
+-- a record that also passes the count of repeats has no fault
 sound : (c : tie.After-loop Inv-loop μ-loop Inv-scan μ-scan)
     → recordFault (openAt (c .before .before .before .before .before .before)) (c .before .before .before .before .before .before .read .result) ≡ 0
 sound c =
@@ -168,7 +169,7 @@ scan-again c =
     (j .before .before .before .before .scan-test .taken) (r .ensures) (c .update-blocks .ensures .0)
     (a .before .loop .inv .3) (sound a) (c .update-blocks .ensures .1))
 
--- how the scan ended: behind the last record, or at a fault
+-- the scan has ended after the last record, or at a fault
 abbrev Ended : tie.Left-scan Inv-loop μ-loop Inv-scan μ-scan → Type 0
 Ended c =
     ((c .scan-test .number ≡ 0) × (c .before .before .before .args .count ≤ c .before .scan .k))

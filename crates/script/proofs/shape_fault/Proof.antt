@@ -1,4 +1,4 @@
--- `script::shape_fault` meets its contract. Assumes nothing.
+-- `shape_fault` returns `shapeFault`: 2, 3 and 4 are checked in this order.
 use borrow.Author.Tests.{eq-eqb, le-leb, lt-leb, ne-eqb}
 use Rattle.script.specs.Scan.{shapeFault}
 use borrow.Author.Needs.{needs}

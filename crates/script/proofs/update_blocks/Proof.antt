@@ -1,4 +1,5 @@
--- `script::update_blocks` meets its contract. Assumes nothing.
+-- `update_blocks` leaves the blocks of `openAfter` in the array. The record has no fault of its place, so the array has
+-- room and an else or an end is inside a block.
 use mathlib.Core.Path.{_≡_, refl}
 use mathlib.Core.Bool.{false}
 use native.Mathlib.Omega.{arith}

@@ -1,4 +1,4 @@
--- `script::value_fields` meets its contract. Assumes nothing.
+-- `value_fields` returns `valueFields`: the same tests in the same order.
 use borrow.Author.Needs.{needs}
 use Rattle.script.proofs.value_fields.Statement.{statement}
 use Rattle.script.proofs.value_fields.Tie as tie

@@ -1,4 +1,4 @@
--- `script::walk` meets its contract. Assumes nothing.
+-- `walk` returns the depth for a repeat and 0 for any other kind.
 use borrow.Author.Tests.{eq-eqb, ne-eqb}
 use Rattle.script.proofs.walk.Statement.{statement}
 use Rattle.script.proofs.walk.Tie as tie

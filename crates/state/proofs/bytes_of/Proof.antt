@@ -1,4 +1,4 @@
--- `state::bytes_of` meets its contract: the blocks' bytes, one after the other. Assumes nothing.
+-- `bytes_of` returns `stateBytes`: each `put` writes the bytes of one block after those of the block before it.
 use Rattle.acpi.specs.Saved.{acpiBytes}
 use Rattle.state.specs.State.{stateBytes}
 use borrow.Author.Needs.{needs}

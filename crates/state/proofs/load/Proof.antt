@@ -1,4 +1,4 @@
--- `state::load` meets its contract: a slice of the size is read as it stands. Assumes nothing.
+-- `load` returns `loaded`: a slice of the right length is read by `read_from`, and any other slice is not valid.
 use Rattle.state.proofs.Slices.{loaded-not, loaded-whole}
 use borrow.Author.Needs.{needs}
 use Rattle.state.proofs.load.Statement.{statement}

@@ -1,5 +1,4 @@
--- `state::put` meets its contract: the loop has put the first `k` bytes of the part at their place.
--- Assumes nothing.
+-- `put` copies the part to its index. The loop invariant: the first `k` bytes of the part have been copied.
 use Prim.Native.Nat.{ℕ, _+_, _≤_, _-_}
 use mathlib.Core.Path.{_≡_, ap, sym, _∙_}
 use mathlib.Core.List.{List}

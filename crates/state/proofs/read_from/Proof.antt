@@ -1,4 +1,4 @@
--- `state::read_from` meets its contract: each block is read from its own bytes. Assumes nothing.
+-- `read_from` returns `loadedFrom`: each block is read from its own part of the bytes.
 use mathlib.Core.Path.{_≡_, sym, ap}
 use mathlib.Core.Bool.{Bool, _&&_, and-true}
 use mathlib.Core.List.{List}
@@ -17,7 +17,7 @@ use Rattle.state.specs.declared.LoadResult.{LoadResult}
 use Rattle.state.proofs.read_from.Statement.{statement}
 use Rattle.state.proofs.read_from.Tie as tie
 
--- the blocks, each read from its own bytes
+-- the result, from what each block reads in its own part
 loads :
     (bytes : List ℕ) (g : Config) (a : Acpi) (m : Monitor) (k : Key) (p q r : Bool) → g ≡ configFrom (part 0 configSize bytes)
     → a ≡ acpiFrom (part acpiStart acpiSize bytes) → m ≡ monitorFrom (part monitorStart monitorSize bytes) → k ≡ keyFrom (part keyStart keySize bytes)

@@ -1,4 +1,4 @@
--- `state::save` meets its contract: the state takes the place of a slice of its size. Assumes nothing.
+-- `save` leaves `saved` in the slice: the state replaces a slice of its length, and any other slice is unchanged.
 use Rattle.state.proofs.Slices.{saved-not, saved-whole}
 use borrow.Author.Needs.{needs}
 use Rattle.state.proofs.save.Statement.{statement}

@@ -1,4 +1,4 @@
--- `device::Device::access` meets its contract: the owner's answer as it is given, and the device settled. Assumes nothing.
+-- `Device::access` returns `deviceAccess`: the answer of `dispatch`, changed by `answer_given`, and the device after `settle`.
 use mathlib.Core.Path.{_≡_}
 use borrow.Author.Needs.{needs}
 use Rattle.access.specs.declared.Access.{Access}

@@ -1,4 +1,4 @@
--- `device::Device::apply_event` meets its contract: in each arm the kind's block takes the event. Assumes nothing.
+-- `Device::apply_event` returns `applyEvent`: each arm of the `match` calls the block that the definition selects for the kind.
 use Prim.Native.Nat.{ℕ}
 use mathlib.Core.Path.{_≡_, ap, sym, _∙_}
 use borrow.Author.Needs.{needs}
@@ -12,7 +12,7 @@ use Rattle.device.specs.declared.Device.{Device}
 use Rattle.device.proofs.Device.apply_event.Statement.{statement}
 use Rattle.device.proofs.Device.apply_event.Tie as tie
 
--- ---- an event, by the block that its kind goes to
+-- ---- `applyEvent`, by the block that takes the kind
 module _ (d : Device) (number : ℕ) where
   by-acpi : eventBlock (kindOf number) ≡ acpi
       → settleDevice (withAcpi d (acpiEvent (d .acpi) (kindOf number) (operandOf number))) ≡ applyEvent d number

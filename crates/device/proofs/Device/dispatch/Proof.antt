@@ -1,5 +1,5 @@
--- `device::Device::dispatch` meets its contract: in each arm the owner answers, and its answer is what the definition lists at its
--- number. Assumes nothing.
+-- `Device::dispatch` returns `dispatch`: each arm of the `match` calls the owner, and its answer is the
+-- entry of `answers` at the number of the owner.
 use Prim.Native.Nat.{ℕ, zero, suc}
 use mathlib.Core.Path.{_≡_, refl, ap, sym, _∙_}
 use native.Mathlib.Omega.{arith}
@@ -16,14 +16,14 @@ use Rattle.device.specs.declared.Device.{Device}
 use Rattle.device.proofs.Device.dispatch.Statement.{statement}
 use Rattle.device.proofs.Device.dispatch.Tie as tie
 
--- ---- the answer that is listed at the owner's number
+-- ---- a result that equals the entry at the number of the owner is the result of `dispatch`
 by-owner :
     (d : Device) (x : Access) (k : ℕ) (r : AccessResult) → owner (d .config) (x .port) ≡ k
     → r ≡ getD (answers d x) k (unclaimed d) → r ≡ dispatch d x
 unfolding dispatch
 by-owner d x k r o e = e ∙ sym (rw o)
 
--- no block has this number
+-- the entry at a number that no block has is status 1
 no-block :
     (d : Device) (x : Access) (k : ℕ) → (k ≡ 1 → ⊥) → (k ≡ 2 → ⊥) → (k ≡ 3 → ⊥) → (k ≡ 4 → ⊥)
     → unclaimed d ≡ getD (answers d x) k (unclaimed d)
@@ -34,7 +34,7 @@ no-block d x (suc (suc (suc zero))) a b c e = absurd (c refl)
 no-block d x (suc (suc (suc (suc zero)))) a b c e = absurd (e refl)
 no-block d x (suc (suc (suc (suc (suc k))))) a b c e = refl
 
--- ---- the owner, and the owner in each arm
+-- ---- the owner, in general and in each arm
 abbrev start : tie.After-owner → tie.Start
 start o = o .before .before .before .before .before
 
@@ -123,7 +123,7 @@ returns-4 c =
     by-owner (s .args .self) (s .args .access) key _ (owns-key (p .before))
     (ap (answeredBy (withKey (s .args .self))) (rw (p .key-base .ensures) at (a .access4 .ensures)))
 
--- ---- nobody
+-- ---- no owner
 status-only-requires : tie.Need-status-only-requires
 status-only-requires c κs = search needs
 

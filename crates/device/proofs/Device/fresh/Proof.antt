@@ -1,4 +1,4 @@
--- `device::Device::fresh` meets its contract. Assumes nothing.
+-- `Device::fresh` returns `freshDevice`: each block is fresh.
 use borrow.Author.Needs.{needs}
 use Rattle.device.proofs.Device.fresh.Statement.{statement}
 use Rattle.device.proofs.Device.fresh.Tie as tie

@@ -1,4 +1,4 @@
--- `device::Device::in_range` meets its contract. Assumes nothing.
+-- `Device::in_range` returns `deviceInRange`: the same tests in the same order.
 use borrow.Author.Tests.{not-false, not-true}
 use Rattle.device.specs.Device.{deviceInRange}
 use mathlib.Core.Bool.{and-true}

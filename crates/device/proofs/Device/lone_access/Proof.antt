@@ -1,4 +1,4 @@
--- `device::Device::lone_access` meets its contract. Assumes nothing.
+-- `Device::lone_access` returns `loneAccess`: it checks for refusals 11 and 4 in this order and then makes the access.
 use borrow.Author.Tests.{not-false, not-true}
 use Rattle.device.specs.Lone.{loneAccess}
 use borrow.Author.Needs.{needs}

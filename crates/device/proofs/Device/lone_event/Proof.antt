@@ -1,4 +1,4 @@
--- `device::Device::lone_event` meets its contract. Assumes nothing.
+-- `Device::lone_event` returns `loneEvent`: it checks for refusals 11 and 12 in this order and then applies the event.
 use borrow.Author.Tests.{not-false, not-true}
 use Rattle.device.specs.Lone.{loneEvent}
 use borrow.Author.Needs.{needs}

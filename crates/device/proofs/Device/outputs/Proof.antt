@@ -1,4 +1,4 @@
--- `device::Device::outputs` meets its contract. Assumes nothing.
+-- `Device::outputs` returns `outputsOf`: each output is computed by its block.
 use borrow.Author.Needs.{needs}
 use Rattle.device.proofs.Device.outputs.Statement.{statement}
 use Rattle.device.proofs.Device.outputs.Tie as tie

@@ -1,4 +1,4 @@
--- `device::Device::reset` meets its contract: each block resets itself. Assumes nothing.
+-- `Device::reset` returns `resetDevice`: each block resets itself.
 use Rattle.device.specs.Device.{resetDevice}
 use borrow.Author.Needs.{needs}
 use Rattle.device.proofs.Device.reset.Statement.{statement}

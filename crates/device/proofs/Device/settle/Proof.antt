@@ -1,4 +1,4 @@
--- `device::Device::settle` meets its contract: with nothing pending the ACPI block is settled already. Assumes nothing.
+-- `Device::settle` returns `settleDevice`: with no status bit pending, settling changes nothing.
 use mathlib.Core.Path.{_≡_, ap, sym, _∙_}
 use borrow.Author.Needs.{needs}
 use borrow.Author.Tests.{not-true}

@@ -1,4 +1,4 @@
--- `device::dispatch::answer_given` meets its contract. Assumes nothing.
+-- `answer_given` returns `answerGiven`: a read is answered by `read_gives`, and the answer to a write is unchanged.
 use borrow.Author.Needs.{needs}
 use Rattle.device.proofs.dispatch.answer_given.Statement.{statement}
 use Rattle.device.proofs.dispatch.answer_given.Tie as tie

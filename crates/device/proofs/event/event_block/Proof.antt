@@ -1,4 +1,4 @@
--- `device::event::event_block` meets its contract: an arm for each row of the table. Assumes nothing.
+-- `event_block` returns `eventBlock`: each arm of the `match` is one row of `eventKinds`, and the last arm is for unknown kinds.
 use borrow.Author.Tests.{ne-eqb}
 use Rattle.device.specs.Event.{eventBlock}
 use Rattle.device.proofs.event.event_block.Statement.{statement}

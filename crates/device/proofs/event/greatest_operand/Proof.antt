@@ -1,4 +1,5 @@
--- `device::event::greatest_operand` meets its contract: an arm for each row of the table. Assumes nothing.
+-- `greatest_operand` returns `greatestOperand`: each arm of the `match` is one row of
+-- `eventKinds`, and the last arm is for unknown kinds.
 use borrow.Author.Tests.{ne-eqb}
 use Rattle.device.specs.Event.{greatestOperand}
 use Rattle.device.proofs.event.greatest_operand.Statement.{statement}

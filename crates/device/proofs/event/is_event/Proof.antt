@@ -1,4 +1,4 @@
--- `device::event::is_event` meets its contract. Assumes nothing.
+-- `is_event` returns `isEvent`: it checks the kind and then the operand.
 use borrow.Author.Tests.{eq-eqb, ne-eqb}
 use Rattle.device.specs.Event.{isEvent}
 use borrow.Author.Needs.{needs}

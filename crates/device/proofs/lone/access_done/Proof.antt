@@ -1,4 +1,4 @@
--- `device::lone::access_done` meets its contract. Assumes nothing.
+-- `access_done` returns `accessDone`: the outputs are those of the new device.
 use borrow.Author.Needs.{needs}
 use Rattle.device.proofs.lone.access_done.Statement.{statement}
 use Rattle.device.proofs.lone.access_done.Tie as tie

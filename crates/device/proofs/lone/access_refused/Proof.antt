@@ -1,4 +1,4 @@
--- `device::lone::access_refused` meets its contract. Assumes nothing.
+-- `access_refused` returns `accessRefused`: all outputs are off.
 use borrow.Author.Needs.{needs}
 use Rattle.device.proofs.lone.access_refused.Statement.{statement}
 use Rattle.device.proofs.lone.access_refused.Tie as tie

@@ -1,4 +1,4 @@
--- `device::lone::event_done` meets its contract. Assumes nothing.
+-- `event_done` returns `eventDone`: the outputs are those of the new device.
 use borrow.Author.Needs.{needs}
 use Rattle.device.proofs.lone.event_done.Statement.{statement}
 use Rattle.device.proofs.lone.event_done.Tie as tie

@@ -1,4 +1,4 @@
--- `device::lone::event_refused` meets its contract. Assumes nothing.
+-- `event_refused` returns `eventRefused`: all outputs are off.
 use borrow.Author.Needs.{needs}
 use Rattle.device.proofs.lone.event_refused.Statement.{statement}
 use Rattle.device.proofs.lone.event_refused.Tie as tie

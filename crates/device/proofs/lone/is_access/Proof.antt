@@ -1,4 +1,4 @@
--- `device::lone::is_access` meets its contract. Assumes nothing.
+-- `is_access` returns `isAccess`: the same tests in the same order.
 use borrow.Author.Tests.{le-leb, le-ltb, lt-leb, lt-ltb, not-false, not-true}
 use borrow.Author.Needs.{needs}
 use Rattle.device.proofs.lone.is_access.Statement.{statement}

@@ -1,4 +1,4 @@
--- `device::owner::in_ports` meets its contract. Assumes nothing.
+-- `in_ports` returns `inPorts`: the same two comparisons.
 use borrow.Author.Tests.{le-leb, le-ltb, lt-leb, lt-ltb}
 use Rattle.device.proofs.owner.in_ports.Statement.{statement}
 use Rattle.device.proofs.owner.in_ports.Tie as tie

@@ -1,4 +1,4 @@
--- `device::owner::key_claims` meets its contract. Assumes nothing.
+-- `key_claims` returns `keyClaims`: the same tests in the same order. The key base is at most FFE0h, so the sum does not overflow.
 use native.Mathlib.Omega.{arith}
 use Rattle.device.proofs.Claims.{key-at-most}
 use borrow.Author.Tests.{eq-eqb, le-leb, le-ltb, lt-leb, lt-ltb, ne-eqb, not-false, not-true}

@@ -1,4 +1,5 @@
--- `device::owner::monitor_claims` meets its contract. Assumes nothing.
+-- `monitor_claims` returns `monitorClaims`: the same tests in the same order. The runtime base is
+-- at most FF80h, so the sums do not overflow.
 use native.Mathlib.Omega.{arith}
 use Rattle.device.proofs.Claims.{runtime-at-most}
 use borrow.Author.Tests.{eq-eqb, ne-eqb, not-false, not-true}

@@ -1,4 +1,4 @@
--- `device::owner::monitor_port` meets its contract. Assumes nothing.
+-- `monitor_port` returns `monitorPort`. The runtime base is at most FF80h, so the sum does not overflow.
 use native.Mathlib.Omega.{arith}
 use Rattle.device.proofs.Claims.{runtime-at-most}
 use borrow.Author.Needs.{needs}

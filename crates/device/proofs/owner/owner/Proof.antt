@@ -1,4 +1,4 @@
--- `device::owner::owner` meets its contract. Assumes nothing.
+-- `owner` returns the definition `owner`: the claims are tested in the order of `claims`.
 use Rattle.device.specs.Owner.{owner}
 use borrow.Author.Needs.{needs}
 use Rattle.device.proofs.owner.owner.Statement.{statement}

@@ -1,4 +1,4 @@
--- `replay::answer::put_bytes` meets its contract. Assumes nothing.
+-- `put_bytes` is safe and ends: the line keeps its length, and the index counts up to the number of bytes.
 use Prim.Native.Nat.{_-_}
 use mathlib.Core.Path.{_≡_}
 use lib.ListN.{length}

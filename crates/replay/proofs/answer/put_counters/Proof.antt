@@ -1,5 +1,4 @@
--- `replay::answer::put_counters` is safe and ends. Assumes nothing.
--- The line keeps its length, and the place counts up to 8.
+-- `put_counters` is safe and ends: the line keeps its length, and the index counts up to 8.
 use Prim.Native.Nat.{_≤_, _-_}
 use mathlib.Core.Path.{_≡_}
 use lib.ListN.{length}

@@ -1,5 +1,4 @@
--- `replay::answer::put_values` is safe and ends. Assumes nothing.
--- The line keeps its length, and the place counts up to the end of the values.
+-- `put_values` is safe and ends: the line keeps its length, and the index counts up to the number of values.
 use Prim.Native.Nat.{_-_}
 use mathlib.Core.Path.{_≡_}
 use lib.ListN.{length}

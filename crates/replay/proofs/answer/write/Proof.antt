@@ -1,4 +1,4 @@
--- `replay::answer::write` meets its contract. Assumes nothing.
+-- `write` is safe and ends: the line is sliced only after the check that the end lies within it.
 use mathlib.Core.Path.{sym}
 use lib.Seq.{length-take-le}
 use borrow.Author.Needs.{needs}

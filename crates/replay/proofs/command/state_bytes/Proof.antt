@@ -1,4 +1,4 @@
--- `replay::command::state_bytes` meets its contract. Assumes nothing.
+-- `state_bytes` is safe and ends: the index counts up to the length of a state, so it lies within the array.
 use Prim.Native.Nat.{_≤_, _-_}
 use mathlib.Core.Path.{_≡_}
 use lib.ListN.{length}

@@ -1,5 +1,4 @@
--- `replay::runs::counters_from` is safe and ends. Assumes nothing.
--- The place counts up to 8, so it lies in the counters.
+-- `counters_from` is safe and ends: the index counts up to 8, so it lies within the counters.
 use Prim.Native.Nat.{_≤_, _-_}
 use borrow.Author.Needs.{needs}
 use Rattle.replay.proofs.runs.counters_from.Statement.{statement}

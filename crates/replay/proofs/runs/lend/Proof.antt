@@ -1,5 +1,4 @@
--- `replay::runs::lend` is safe and ends. Assumes nothing.
--- The place counts up to 2,048, so it lies in the log and the sum fits.
+-- `lend` is safe and ends: the index counts up to 2,048, so it lies within the log, and the sum does not overflow.
 use Prim.Native.Nat.{_≤_, _-_}
 use borrow.Author.Needs.{needs}
 use Rattle.replay.proofs.runs.lend.Statement.{statement}

@@ -1,5 +1,4 @@
--- `replay::runs::run_within` is safe and ends. Assumes nothing.
--- Each part is lent only behind the test that it lies within its buffer.
+-- `run_within` is safe and ends: each buffer is sliced only after the check that the end lies within it.
 use mathlib.Core.Path.{sym}
 use native.Mathlib.Omega.{arith}
 use lib.Seq.{length-take-le}

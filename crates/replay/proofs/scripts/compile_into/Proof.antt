@@ -1,5 +1,4 @@
--- `replay::scripts::compile_into` is safe and ends. Assumes nothing.
--- Both parts are lent only behind the test that they lie within their buffers.
+-- `compile_into` is safe and ends: both buffers are sliced only after the check that the ends lie within them.
 use mathlib.Core.Path.{sym}
 use native.Mathlib.Omega.{arith}
 use lib.Seq.{length-take-le}

@@ -1,4 +1,4 @@
--- `replay::scripts::lend` meets its contract. Assumes nothing.
+-- `lend` is safe and ends: the index counts up to 16,384, so it lies within the image buffer.
 use Prim.Native.Nat.{_≤_, _-_}
 use mathlib.Core.Path.{_≡_}
 use lib.ListN.{length}

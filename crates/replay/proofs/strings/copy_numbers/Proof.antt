@@ -1,5 +1,4 @@
--- `replay::strings::copy_numbers` is safe and ends. Assumes nothing.
--- The place counts up to 4,352, so it lies in the buffer.
+-- `copy_numbers` is safe and ends: the index counts up to 4,352, so it lies within the buffer.
 use Prim.Native.Nat.{_≤_, _-_}
 use borrow.Author.Needs.{needs}
 use Rattle.replay.proofs.strings.copy_numbers.Statement.{statement}

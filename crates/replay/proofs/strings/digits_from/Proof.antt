@@ -1,5 +1,4 @@
--- `replay::strings::digits_from` is safe and ends. Assumes nothing.
--- The place counts up to the length of the line.
+-- `digits_from` is safe and ends: the index counts up to the length of the line.
 use Prim.Native.Nat.{_≤_, _-_}
 use borrow.Author.Needs.{needs}
 use Rattle.replay.proofs.strings.digits_from.Statement.{statement}

@@ -1,4 +1,4 @@
--- `trace::answer::put_end` meets its contract. Assumes nothing.
+-- `put_end` puts `endText`: the word END and then the two numbers.
 use mathlib.Core.Path.{ap, _∙_}
 use Rattle.digits.specs.Text.{puts}
 use Rattle.trace.specs.Printed.{numbersText}

@@ -1,4 +1,4 @@
--- `trace::answer::put_numbers` meets its contract. Assumes nothing.
+-- `put_numbers` puts `numbersText`, piece by piece.
 use mathlib.Core.Path.{ap, _∙_}
 use Rattle.digits.specs.Text.{decimalText, put, puts}
 use Rattle.trace.proofs.Lines.{numbers-put}

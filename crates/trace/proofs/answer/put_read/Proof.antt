@@ -1,4 +1,4 @@
--- `trace::answer::put_read` meets its contract. Assumes nothing.
+-- `put_read` puts `readText`, piece by piece.
 use mathlib.Core.Path.{ap, _∙_}
 use Rattle.digits.specs.Text.{hexText, put, puts}
 use borrow.Author.Needs.{needs}

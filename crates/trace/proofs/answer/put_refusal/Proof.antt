@@ -1,4 +1,4 @@
--- `trace::answer::put_refusal` meets its contract. Assumes nothing.
+-- `put_refusal` puts `refusedText`: the word REFUSED and then the two numbers.
 use mathlib.Core.Path.{ap, _∙_}
 use Rattle.digits.specs.Text.{puts}
 use Rattle.trace.specs.Printed.{numbersText}

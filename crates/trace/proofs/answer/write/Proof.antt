@@ -1,5 +1,4 @@
--- `trace::answer::write` is safe and ends. Assumes nothing.
--- The part is lent only behind the test that it lies within the text.
+-- `write` is safe and ends: the text is sliced only after the check that the end lies within it.
 use mathlib.Core.Path.{sym}
 use lib.Seq.{length-take-le}
 use borrow.Author.Needs.{needs}
