@@ -54,7 +54,7 @@ settle-pending a h = settle-is a ∙ pick (a .sleeping) refl
     pick true e = rw (e, h, pending-raise (withSleeping a false) 0x8000 h)
     pick false e = rw (e, h)
 
--- a block that is awake stays the same
+-- settling such a block again changes nothing
 awake-twice : (a : Acpi) → awake (awake a) ≡ awake a
 awake-twice a = refl
 

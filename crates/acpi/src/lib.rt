@@ -101,7 +101,7 @@ impl Acpi {
     pub const SCI_EN: u16 = 0x0001;
     // Writing 1 to bit 13 of PM1a_CNT puts the chip to sleep.
     pub const SLP_EN: u32 = 0x2000;
-    // The largest map value, its bits 9 to 11, which must be 0, and bit 8, which is 1 for a falling edge.
+    // Map values: the largest value, bits 9 to 11 (must be 0), and bit 8 (1 for a falling edge).
     pub const MAP_LAST: u32 = 0x1FFF;
 
     pub const MAP_ZERO: u32 = 0x0E00;

@@ -1,4 +1,4 @@
-// The index port and the data port of the configuration, which `Config::access` calls. See docs/CHIP.md, "Configuration".
+// Reads and writes of the index port and the data port. `Config::access` calls them. See docs/CHIP.md, "Configuration".
 use super::AccessResult;
 use super::Config;
 use access::Answer;

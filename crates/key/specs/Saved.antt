@@ -1,4 +1,4 @@
--- The key as 32 bytes, in order, and back. See docs/STATE.md. Any bytes can be key bytes.
+-- The key as 32 bytes, in order, and back. See docs/STATE.md. Any byte can be a key byte.
 use Prim.Native.Nat.{ℕ}
 use mathlib.Core.List.{List}
 use Rattle.lists.specs.Slice.{slice}

@@ -24,7 +24,7 @@ twoBytes x = byte0 x ∷ byte1 x ∷ []
 abbrev pub fourBytes : ℕ → List ℕ
 fourBytes x = byte0 x ∷ byte1 x ∷ byte2 x ∷ byte3 x ∷ []
 
--- ---- the number of some bytes
+-- ---- the number that bytes stand for
 abbrev pub two : ℕ → ℕ → ℕ
 two a b = a + b * 256
 

@@ -11,7 +11,7 @@ fn wide(b: u8) -> u32
     b as u32
 }
 
-// The number of two or four bytes.
+// The number that the bytes stand for.
 pub fn two(a: u8, b: u8) -> u16
     ensures { λ r. ⌜ r ≡ two a b ⌝ }
 {
