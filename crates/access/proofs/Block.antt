@@ -1,5 +1,5 @@
--- What holds of every block's answer: "Apart from the settling below, statuses 1 to 5 change nothing", and "A write's value
--- answer is 0". A block shows it branch by branch, with one of the four lemmas at each leaf. Assumes nothing.
+-- What holds for the answer of every block: "Apart from the settling below, statuses 1 to 5 change nothing", and "A write's
+-- value answer is 0". Each block proves it for its own access. One of the four lemmas below closes each branch.
 use Prim.Native.Nat.{ℕ}
 use mathlib.Core.Path.{_≡_, refl}
 use mathlib.Core.Bool.{Bool, true, false}
@@ -17,7 +17,7 @@ module _ {B : Type 0} {b : B} where
   pub write-done : {w : Bool} {next : B} → Orderly b w (status 0 next)
   write-done = record { unchanged = λ n. absurd (n refl); write-zero = λ e. refl }
 
-  -- a status alone leaves the block as it was
+  -- an answer without a value, and the block is unchanged
   pub kept : {w : Bool} {s : ℕ} → Orderly b w (status s b)
   kept = record { unchanged = λ n. refl; write-zero = λ e. refl }
 
@@ -25,6 +25,6 @@ module _ {B : Type 0} {b : B} where
   pub read-done : {v : ℕ} {next : B} → Orderly b false (result (done v) next)
   read-done = record { unchanged = λ n. absurd (n refl); write-zero = λ e. let z : _≡_ {A = ℕ} 0 1 = cc in absurd (omega arith) }
 
-  -- a read that leaves the block as it was
+  -- a read at any status, and the block is unchanged
   pub read-kept : {r : Answer} → Orderly b false (result r b)
   read-kept = record { unchanged = λ n. refl; write-zero = λ e. let z : _≡_ {A = ℕ} 0 1 = cc in absurd (omega arith) }

@@ -1,4 +1,4 @@
--- What a register block answers to an access, with the block after it: one shape for every block.
+-- What a register block returns for an access: the answer, and the block after the access. All blocks use this type.
 use Prim.Native.Nat.{ℕ}
 use mathlib.Core.Bool.{Bool}
 use lib.Dec.{eqb}
@@ -16,6 +16,6 @@ result r b = record { answer = r; block = b }
 abbrev pub takesByte : ℕ → Bool
 takesByte width = eqb width 1
 
--- an answer that is a status alone: a write, or a read that is not done. "A write's value answer is 0."
+-- a write, or a read that is not done. "A write's value answer is 0."
 abbrev pub status : {B : Type 0} → ℕ → B → Result B
 status s b = result (statusOnly s) b

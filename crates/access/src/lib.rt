@@ -1,9 +1,10 @@
-// An access and its answer: the status table of document 01.
+// An access, its answer, and the status numbers. See docs/CHIP.md, "Accesses".
+// The register blocks take an `Access` and return an `Answer`. `device` passes the access to the block that owns the port.
 ghost use mathlib.Core.Path.{_≡_};
 ghost use Rattle.access.specs.Block.{takesByte};
 ghost use Rattle.access.specs.Status.{done, statusOnly, readGives};
 
-// A read or a write; `value` is what a write writes, and a read does not look at it.
+// `value` is the value to write. A read ignores it.
 pub struct Access {
     pub write: bool,
     pub width: u32,
@@ -17,6 +18,7 @@ pub struct Answer {
 }
 
 impl Answer {
+    // The statuses, in the order of the table in docs/CHIP.md, "Accesses".
     pub const DONE: u32 = 0;
 
     pub const UNCLAIMED: u32 = 1;
@@ -38,7 +40,7 @@ impl Answer {
         }
     }
 
-    // An answer with no value of its own: a write, or a read that is not done.
+    // The answer to a write, or to a read that is not done.
     pub fn status_only(status: u32) -> Self
         ensures { λ r. ⌜ r ≡ statusOnly status ⌝ }
     {
@@ -46,14 +48,14 @@ impl Answer {
     }
 }
 
-// Does a block of byte-wide registers take this width?
+// Does a block whose registers are one byte wide accept this width?
 pub fn takes_byte(width: u32) -> bool
     ensures { λ r. ⌜ r ≡ takesByte width ⌝ }
 {
     width == 1
 }
 
-// What a read of this width gives under a status, where the register holds `value`.
+// The value that a read returns: `value` at status 0, all ones of the width at status 1, otherwise 0.
 pub fn read_gives(status: u32, width: u32, value: u32) -> u32
     ensures { λ r. ⌜ r ≡ readGives status width value ⌝ }
 {

@@ -1,4 +1,4 @@
--- What the tests of the ACPI block say of the numbers that pass them. Assumes nothing.
+-- What follows for a number that passes a test of the ACPI block, and facts about SCI, SMI and the timer that several proofs use.
 use Prim.Native.Nat.{ℕ, suc, _+_, _*_, _%_, _^_, _≤_, _<_}
 use mathlib.Core.Path.{_≡_, refl, sym, _∙_}
 use mathlib.Core.Bool.{Bool, true, false, not, _&&_, _||_, and-false}
@@ -19,7 +19,7 @@ or-cases : (a b : Bool) → (a || b) ≡ true → (a ≡ true) ⊎ (b ≡ true)
 or-cases true b e = inl refl
 or-cases false b e = inr e
 
--- a range pattern, as the code tests it
+-- a range pattern of a `match`, as the code tests it
 pub between : (lo hi x : ℕ) → lo ≤ x → x < suc hi → (leb lo x && leb x hi) ≡ true
 between lo hi x l h = and-both (leb lo x) (leb x hi) (le-leb lo x l) (le-leb x hi (omega arith))
 
@@ -45,7 +45,7 @@ legal-map v h =
     let zeros = eqb (bitAnd v 0x0E00) 0 in
     leb-true v 0x1FFF (and-left (leb v 0x1FFF) zeros (and-left (leb v 0x1FFF && zeros) (legalTarget (v % 256)) h))
 
--- either of SCI and SMI is on exactly if something is pending
+-- SCI or SMI is on exactly if a status bit is pending
 pub either : (a : Acpi) → (sciOn a || smiOn a) ≡ pending a
 unfolding sciOn smiOn
 either a = pick (pending a) (a .scien)
@@ -55,9 +55,10 @@ either a = pick (pending a) (a .scien)
     pick true false = refl
     pick false s = refl
 
--- a sum that wraps at 32 bits has the remainder of the whole sum
+-- a sum that wraps at 32 bits has the same remainder by 2^24
 pub remainder : (t n s : ℕ) → s ≡ (t + n) % 2 ^ 32 → s % 2 ^ 24 ≡ (t + n) % 2 ^ 24
 remainder t n s h = omega arith
 
+-- a single bit below bit 16 fits 16 bits
 pub one-bit : (k : ℕ) → k < 16 → (1 * 2 ^ k) % 2 ^ 16 ≡ 2 ^ k
 one-bit k h = mod-eq-of-lt (rw one-mul (pow-lt h)) ∙ one-mul (2 ^ k)

@@ -1,4 +1,4 @@
--- An access that is not done leaves the block as it is, and a write's answer has value 0. Assumes nothing.
+-- An access that is not done leaves the ACPI block unchanged, and a write returns the value 0. Shown branch by branch.
 use Prim.Native.Nat.{ℕ, _-_}
 use mathlib.Core.Bool.{Bool, false}
 use lib.Dec.{eqb, leb}

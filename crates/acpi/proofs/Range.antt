@@ -1,5 +1,5 @@
--- The fresh and the reset ACPI block are in range, and every access, event and settling leaves it so: what is stored is masked
--- or tested, status bits are set within the mask, and the timer is a remainder. Assumes nothing.
+-- The fresh ACPI block is in range, and every reset, access, event and settling keeps it in range: values are masked or tested
+-- before they are stored, status bits are set within the mask, and the timer is a remainder.
 use Prim.Native.Nat.{ℕ, _+_, _-_, _%_, _^_, _<_}
 use mathlib.Core.Path.{_≡_, refl}
 use mathlib.Core.Bool.{Bool, true, false, _&&_, _||_}
@@ -53,7 +53,7 @@ pub fresh-in-range : acpiInRange freshAcpi ≡ true
 unfolding acpiInRange legalMap
 fresh-in-range = refl
 
--- ---- the test taken apart, register by register, and put together again
+-- ---- the range test as one test for each field, and back
 record Ranged (a : Acpi) : Type 0 where
   pcnt : within 0x17 (a .pcnt) ≡ true
   cpu : isCpuState (a .cpu) ≡ true
@@ -95,7 +95,7 @@ together : (a : Acpi)
 unfolding acpiInRange
 together a p c s e n x i t m = rw (p, c, s, e, n, x, i, t, m)
 
--- a block, or what an access leaves, is in range
+-- a block is in range; the block after an access is in range
 abbrev StaysInRange : Acpi → Type 0
 StaysInRange a = acpiInRange a ≡ true
 
@@ -109,7 +109,7 @@ module _ (a : Acpi) (h : acpiInRange a ≡ true) where
   pub timer-below : a .timer < 2 ^ 24
   timer-below = ltb-true (a .timer) (2 ^ 24) (r .timer)
 
-  -- ---- one register changed; levels, SCI_EN, sleep and GPE0 take any value
+  -- ---- one field changed; pin levels, SCI_EN, sleeping, GPE0_STS and GPE0_EN take any value
   kept-pcnt : (v : ℕ) → within 0x17 v ≡ true → StaysInRange (withPcnt a v)
   kept-pcnt v k =
       together (withPcnt a v) k (r .cpu) (r .pm1sts) (r .pm1en) (r .pm1cnt) (r .setupidx) (r .irq) (r .timer) (r .maps)

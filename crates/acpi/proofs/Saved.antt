@@ -1,5 +1,5 @@
--- A block that is saved and loaded is the same block, and bytes that a block can hold are saved as they were loaded. A field of
--- two or four bytes comes back if it fits them, a list if it has its length. Assumes nothing.
+-- An ACPI block that is saved and loaded is the same block. Bytes that can be an ACPI block, loaded and saved, are the same
+-- bytes.
 use Prim.Native.Nat.{ℕ, _+_, _<_}
 use mathlib.Core.Path.{_≡_, refl, _∙_}
 use mathlib.Core.Bool.{true, false, _&&_}
@@ -26,7 +26,7 @@ use Rattle.mask.proofs.Every.{all-at, and-left, and-right}
 use Rattle.acpi.specs.Saved.{acpiBytes, acpiFrom, acpiSaved, levelsFrom, levelsSaved, mapsFrom}
 use Rattle.acpi.specs.declared.Acpi.{Acpi}
 
--- each field that takes more than one byte fits them, and each list has its length
+-- each field fits its bytes, and each array has its length; the types of the code ensure it
 pub record Typed (a : Acpi) : Type 0 where
   pub pm1sts : a .pm1sts < 65536
   pub pm1en : a .pm1en < 65536

@@ -1,5 +1,5 @@
--- Settling twice is settling once: what is pending stays pending when WAKE_STS is set, and what settling leaves is awake
--- with CPU state 0, or has nothing pending. Assumes nothing.
+-- Settling twice is the same as settling once: a pending status bit is still pending after WAKE_STS is set, and a settled block
+-- has no pending status bit, or is awake with CPU state 0.
 use Prim.Native.Nat.{ℕ}
 use mathlib.Core.Path.{_≡_, refl, ap, _∙_}
 use mathlib.Core.Bool.{Bool, true, false, cond, _||_, and-false, and-true, or-true}
@@ -12,6 +12,7 @@ use Rattle.acpi.specs.Fields.{raise, withCpu, withPm1sts, withSleeping}
 use Rattle.acpi.specs.Settle.{pending, wake}
 use Rattle.acpi.specs.declared.Acpi.{Acpi}
 
+-- setting more status bits does not end a pending one
 pub pending-raise : (a : Acpi) (bits : ℕ) → pending a ≡ true → pending (raise a bits) ≡ true
 unfolding pending
 pending-raise a bits =
@@ -24,7 +25,7 @@ pending-raise a bits =
     pick true g k e = rw (k refl)
     pick false g k e = rw e (or-true more)
 
--- what waking and CPU state 0 make of a block with something pending
+-- a block with a pending status bit after settling
 abbrev pub awake : Acpi → Acpi
 awake a = withCpu (withSleeping (withPm1sts a (cond (a .sleeping) (bitOr (a .pm1sts) 0x8000) (a .pm1sts))) false) 0
 
@@ -40,6 +41,7 @@ settle-is : (a : Acpi) → acpiSettle a ≡ cond (pending (wake a)) (withCpu (wa
 unfolding acpiSettle
 settle-is a = rw (either (wake a))
 
+-- settling without, and with, a pending status bit
 pub settle-idle : (a : Acpi) → pending a ≡ false → acpiSettle a ≡ a
 unfolding wake
 settle-idle a h = settle-is a ∙ rw (h, and-false (a .sleeping), h)
@@ -52,7 +54,7 @@ settle-pending a h = settle-is a ∙ pick (a .sleeping) refl
     pick true e = rw (e, h, pending-raise (withSleeping a false) 0x8000 h)
     pick false e = rw (e, h)
 
--- what waking leaves is awake
+-- settling such a block again changes nothing
 awake-twice : (a : Acpi) → awake (awake a) ≡ awake a
 awake-twice a = refl
 
@@ -64,7 +66,7 @@ settle-twice a = pick (pending a) refl
     pick true h =
         rw (settle-pending a h) (settle-pending (awake a) (pending-awake a h) ∙ awake-twice a)
 
--- the fresh block has nothing pending
+-- the fresh block has no pending status bit, so it is settled
 pub settle-fresh : acpiSettle freshAcpi ≡ freshAcpi
 unfolding pending
 settle-fresh = settle-idle freshAcpi refl

@@ -1,5 +1,5 @@
--- Ticks: TMR_STS is set exactly from FFFFFFh; settling between ticks changes nothing, as only the order of two status
--- bits differs; so n ticks are n single ticks, by one tick more at a time. Assumes nothing.
+-- n ticks are the same as n single ticks, each followed by settling. TMR_STS is set exactly at the tick from FFFFFFh to 0, and
+-- settling between ticks makes no difference, since the order in which two status bits are set does not matter.
 use Prim.Native.Nat.{ℕ, zero, suc, _+_, _%_, _^_, _≤_, _<_}
 use mathlib.Core.Path.{_≡_, refl, sym, ap, _∙_}
 use mathlib.Core.Bool.{Bool, true, false, cond, _||_}
@@ -28,10 +28,11 @@ passes-from t h = pick (ℕ-discrete t 0xFFFFFF)
 or-swap : (a b c : ℕ) → bitOr (bitOr a b) c ≡ bitOr (bitOr a c) b
 or-swap a b c = or-assoc a b c ∙ ap (bitOr a) (or-comm b c) ∙ sym (or-assoc a c b)
 
--- a timer value stored, and TMR_STS set or not
+-- the block with a timer value, and with TMR_STS set if p is true
 abbrev counted : Bool → Acpi → ℕ → Acpi
 counted p a v = cond p (raise (withTimer a v) 0x0001) (withTimer a v)
 
+-- a pending status bit is still pending after ticks
 pub pending-ticked : (a : Acpi) (n : ℕ) → pending a ≡ true → pending (ticked a n) ≡ true
 unfolding ticked pending
 pending-ticked a n h = pick (timerWraps (a .timer) ((a .timer + n) % 2 ^ 24))
@@ -40,7 +41,7 @@ pending-ticked a n h = pick (timerWraps (a .timer) ((a .timer + n) % 2 ^ 24))
     pick true = pending-raise a 0x0001 h
     pick false = h
 
--- waking before the ticks or after them: the two status bits are set in another order
+-- waking up before the ticks is the same as after them: only the order of two status bits differs
 awake-ticked : (a : Acpi) (n : ℕ) → awake (ticked (awake a) n) ≡ awake (ticked a n)
 unfolding ticked
 awake-ticked a n = pick (a .sleeping)
@@ -57,6 +58,7 @@ awake-ticked a n = pick (a .sleeping)
     pick true = both true (timerWraps (a .timer) ((a .timer + n) % 2 ^ 24)) ((a .timer + n) % 2 ^ 24)
     pick false = both false (timerWraps (a .timer) ((a .timer + n) % 2 ^ 24)) ((a .timer + n) % 2 ^ 24)
 
+-- settling before the ticks makes no difference if the block settles after them
 pub settle-between : (a : Acpi) (n : ℕ) → acpiSettle (ticked (acpiSettle a) n) ≡ acpiSettle (ticked a n)
 settle-between a n = pick (pending a) refl
   where
@@ -68,14 +70,14 @@ settle-between a n = pick (pending a) refl
         ∙ awake-ticked a n
         ∙ sym (settle-pending (ticked a n) (pending-ticked a n h)))
 
--- ---- one tick more
+-- ---- one more tick
 counted-twice : (p q : Bool) (a : Acpi) (u v : ℕ) → counted q (counted p a u) v ≡ counted (p || q) a v
 counted-twice true true a u v = ap (withPm1sts (withTimer a v)) (or-assoc (a .pm1sts) 0x0001 0x0001)
 counted-twice true false a u v = refl
 counted-twice false true a u v = refl
 counted-twice false false a u v = refl
 
--- fewer than 2^24 ticks pass FFFFFFh at most once: before the last tick, or with it
+-- fewer than 2^24 ticks wrap the timer at most once: before the last tick or at it
 timer-wraps-once : (t n : ℕ) → t < 2 ^ 24 → suc n < 2 ^ 24
     → (timerWraps t ((t + n) % 2 ^ 24) || timerWraps ((t + n) % 2 ^ 24) (((t + n) % 2 ^ 24 + 1) % 2 ^ 24))
     ≡ timerWraps t (((t + n) % 2 ^ 24 + 1) % 2 ^ 24)
@@ -98,6 +100,7 @@ timer-wraps-once t n h l = pick (timerWraps t u) (timerWraps u v) refl refl
         let k = ltb-false v u f in
         sym (le-ltb v t (omega arith))
 
+-- n + 1 ticks are n ticks and one more
 pub ticked-more : (a : Acpi) (n : ℕ) → a .timer < 2 ^ 24 → suc n < 2 ^ 24 → ticked a (suc n) ≡ ticked (ticked a n) 1
 unfolding ticked
 ticked-more a n h l =

@@ -1,4 +1,4 @@
--- Document 01, "ACPI block" and "Outside events": the block as a whole.
+-- The ACPI block as a whole: resets, range, accesses, events and settling. See docs/CHIP.md, "ACPI" and "Events".
 use Prim.Native.Nat.{ℕ, _%_, _^_}
 use mathlib.Core.Bool.{Bool, false, cond, _||_}
 use mathlib.Core.List.{List, [], _∷_}
@@ -41,7 +41,7 @@ resetState levels = record {
 abbrev pub freshAcpi : Acpi
 freshAcpi = resetState (replicate 8 false)
 
--- resets 0 and 1 do not reach the block
+-- resets 0 and 1 keep the block
 unfoldable pub acpiReset : Acpi → ℕ → Acpi
 acpiReset a level = cond (eqb level 0 || eqb level 1) a (cond (eqb level 2) (resetState (a .levels)) freshAcpi)
 
@@ -77,7 +77,7 @@ acpiAccess a offset x =
     (status 1 a)
 
 -- "1 ticks [..]; 2 pin (0 to 15: bits 2 to 0 pin, bit 3 new level [..]); 3 RTC alarm, bit 10; 4 bus master, bit 4; [..] 7
--- button held, bit 11. Kinds 3, 4 and 7 [..] set PM1a_STS." Kinds 5 and 6 are other blocks' and the device's.
+-- button held, bit 11. Kinds 3, 4 and 7 [..] set PM1a_STS." Kind 5 belongs to the monitor and kind 6 to the device.
 unfoldable pub acpiEvent : Acpi → ℕ → ℕ → Acpi
 acpiEvent a kind operand =
     cond (eqb kind 1) (ticked a operand)

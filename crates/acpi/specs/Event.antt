@@ -1,4 +1,4 @@
--- Document 01, "The timer has 24 bits" and "Outside events": ticks and pins.
+-- What ticks and pin events do. See docs/CHIP.md, "Events".
 use Prim.Native.Nat.{ℕ, _+_, _-_, _%_, _^_}
 use mathlib.Core.Bool.{Bool, false, cond}
 use lib.Bits.{bitOr}
@@ -8,24 +8,26 @@ use Rattle.acpi.specs.Fields.{raise, withGpe0sts, withLevels, withTimer}
 use Rattle.acpi.specs.Map.{inDirection, isGpeTarget}
 use Rattle.acpi.specs.declared.Acpi.{Acpi}
 
--- "TMR_STS (bit 0) is set when it passes from FFFFFFh to 0": of at most 65,535 ticks, exactly if the timer is then less
+-- "TMR_STS (bit 0) is set when it passes from FFFFFFh to 0": after at most 65,535 ticks, exactly if the timer is less than
+-- before
 abbrev pub timerWraps : ℕ → ℕ → Bool
 timerWraps before after = ltb after before
 
--- n ticks; that this is n single ticks is a law
+-- n ticks; the law `ticks` in proofs/Ticks.antt says that this is the same as n single ticks
 unfoldable pub ticked : Acpi → ℕ → Acpi
 ticked a n =
     cond (timerWraps (a .timer) ((a .timer + n) % 2 ^ 24)) (raise (withTimer a ((a .timer + n) % 2 ^ 24)) 0x0001)
     (withTimer a ((a .timer + n) % 2 ^ 24))
 
--- the bit that a map value names is set
+-- sets the status bit that a map value selects, if it selects one
 unfoldable pub raiseMapped : Acpi → ℕ → Acpi
 raiseMapped a m =
     cond (eqb (m % 256) 0x08) (raise a 0x0100)
     (cond (eqb (m % 256) 0x09) (raise a 0x0200)
     (cond (isGpeTarget (m % 256)) (withGpe0sts a (bitOr (a .gpe0sts) (2 ^ (m % 256 - 0x10)))) a))
 
--- "2 pin (0 to 15: bits 2 to 0 pin, bit 3 new level, which is stored; a change in the mapped direction sets the mapped bit, an equal level sets none"
+-- "2 pin (0 to 15: bits 2 to 0 pin, bit 3 new level, which is stored; a change in the mapped direction sets the mapped bit, an
+-- equal level sets none)"
 unfoldable pub pinLevel : Acpi → ℕ → Bool → Acpi
 pinLevel a pin level =
     cond (inDirection (getD (a .maps) pin 0) (getD (a .levels) pin false) level)

@@ -1,4 +1,4 @@
--- The ACPI block with one field changed.
+-- The ACPI block with one field changed, and with more bits of PM1a_STS set.
 use Prim.Native.Nat.{ℕ}
 use mathlib.Core.Bool.{Bool}
 use mathlib.Core.List.{List}
@@ -257,6 +257,6 @@ withLevels a ls = record {
   levels = ls;
 }
 
--- bits of PM1a_STS set
+-- sets bits of PM1a_STS
 abbrev pub raise : Acpi → ℕ → Acpi
 raise a bits = withPm1sts a (bitOr (a .pm1sts) bits)

@@ -1,4 +1,4 @@
--- Document 01, "ACPI block": the map of a pin.
+-- The map value of a pin: which status bit the pin sets, and at which edge. See docs/CHIP.md, "Setup registers".
 use Prim.Native.Nat.{ℕ, _%_}
 use mathlib.Core.Bool.{Bool, cond, not, _&&_, _||_}
 use lib.Bits.{bitAnd}

@@ -1,4 +1,4 @@
--- Document 01, "ACPI block": the registers by their offset from AC00h.
+-- The registers of the ACPI block, by their offset from AC00h. See docs/CHIP.md, "ACPI".
 use Prim.Native.Nat.{ℕ}
 use mathlib.Core.Bool.{Bool, true, false, cond, _||_}
 use lib.Bits.{bitAnd, bitOr}
@@ -33,7 +33,7 @@ takes offset width =
 abbrev pub controlRead : Acpi → ℕ
 controlRead a = cond (a .scien) (bitOr (a .pm1cnt) 0x0001) (a .pm1cnt)
 
--- what the register at an offset holds; "6 (1) SMI_CMD: [..] reads 0"
+-- the value of the register at an offset; "6 (1) SMI_CMD: [..] reads 0"
 unfoldable pub registerValue : Acpi → ℕ → ℕ
 registerValue a offset =
     cond (eqb offset 0) (a .pcnt)
@@ -63,7 +63,7 @@ controlWrite a v =
     (status 0 (withPm1cnt a (bitAnd v 0x1C02)))
 
 -- "0 (4) P_CNT, mask 17h. [..] 8 (2) PM1a_STS, mask 8F31h, write 1 to clear. 10 (2) PM1a_EN, mask 0721h. [..] 16 (2)
--- GPE0_STS, write 1 to clear. 18 (2) GPE0_EN. All 16 bits." A write to P_LVL2, P_LVL3 and the timer is status 2.
+-- GPE0_STS, write 1 to clear. 18 (2) GPE0_EN. All 16 bits." A write to P_LVL2, P_LVL3 or the timer has status 2.
 unfoldable pub registerWrite : Acpi → ℕ → ℕ → Result Acpi
 registerWrite a offset v =
     cond (eqb offset 0) (status 0 (withPcnt a (bitAnd v 0x17)))

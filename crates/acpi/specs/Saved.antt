@@ -1,4 +1,4 @@
--- docs/STATE.md: the ACPI block as 45 bytes, in the order of its table, and back.
+-- The ACPI block as 45 bytes, and back, in the order of its table in docs/STATE.md.
 use Prim.Native.Nat.{ℕ, zero, suc, _+_}
 use mathlib.Core.Bool.{Bool, false, _&&_}
 use mathlib.Core.List.{List, [], _∷_, _++_}
@@ -12,7 +12,7 @@ abbrev pub acpiSize : ℕ
 acpiSize = 45
 
 -- ---- the block as bytes
--- so many maps, and so many levels, from a pin on
+-- the bytes of n maps, and of n levels, from a pin on
 abbrev pub mapBytes : ℕ → ℕ → List ℕ → List ℕ
 mapBytes zero pin maps = []
 mapBytes (suc n) pin maps = twoBytes (getD maps pin 0) ++ mapBytes n (suc pin) maps
@@ -32,7 +32,8 @@ acpiBytes a =
     ++ (twoBytes (a .gpe0en)
     ++ (mapBytes 8 0 (a .maps) ++ (a .irq ∷ (fourBytes (a .timer) ++ levelBytes 8 0 (a .levels))))))))))
 
--- ---- bytes as the block
+-- ---- the block from its bytes
+-- n maps, and n levels, from a place in the bytes on
 abbrev pub mapsFrom : ℕ → ℕ → List ℕ → List ℕ
 mapsFrom zero at bytes = []
 mapsFrom (suc n) at bytes = twoAt bytes at ∷ mapsFrom n (at + 2) bytes
@@ -59,7 +60,7 @@ acpiFrom bytes = record {
   levels = levelsFrom 8 37 bytes;
 }
 
--- ---- can a block hold these bytes? The flags are 0 or 1
+-- ---- can these bytes be an ACPI block? The flags are 0 or 1
 abbrev pub levelsSaved : List ℕ → Bool
 levelsSaved bytes = allBelow 8 (λ k. isFlag bytes (37 + k))
 

@@ -1,4 +1,4 @@
--- Document 01, "ACPI block": pending, SCI, SMI, and waking.
+-- Pending status bits, the outputs SCI and SMI, and waking up. See docs/CHIP.md, "Sleep, wake and settling".
 use mathlib.Core.Bool.{Bool, false, cond, not, _&&_, _||_}
 use Rattle.mask.specs.Mask.{hasBit}
 use Rattle.acpi.specs.Fields.{raise, withSleeping}

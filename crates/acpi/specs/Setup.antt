@@ -1,4 +1,4 @@
--- Document 01, "ACPI block": SETUP_IDX and SETUP_DATA.
+-- SETUP_IDX, and the registers that SETUP_DATA accesses. See docs/CHIP.md, "Setup registers".
 use Prim.Native.Nat.{ℕ, _-_}
 use mathlib.Core.Bool.{Bool, cond, _&&_, _||_}
 use lib.Dec.{eqb, leb}

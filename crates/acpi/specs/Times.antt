@@ -1,4 +1,4 @@
--- Document 01, "Outside events": "same as that many single ticks": the same step, n times.
+-- The same step n times, for the law `ticks` in proofs/Ticks.antt: "same as that many single ticks".
 use Prim.Native.Nat.{ℕ, zero, suc}
 
 abbrev pub times : {A : Type 0} → ℕ → (A → A) → A → A

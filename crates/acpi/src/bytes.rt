@@ -1,4 +1,4 @@
-// The block's saved form: docs/STATE.md, bytes 61 to 105 of a device's, here 0 to 44.
+// The ACPI block as 45 bytes, and back. `state` calls it. See docs/STATE.md.
 ghost use mathlib.Core.Path.{_≡_};
 ghost use Prim.Native.Nat.{_<_};
 ghost use lib.ListN.{length};
@@ -142,7 +142,7 @@ impl Acpi {
         }
     }
 
-    // Can a block hold these bytes? The flags are 0 or 1.
+    // Can these bytes be an ACPI block? The flags must be 0 or 1.
     pub fn is_saved(bytes: &[u8]) -> bool
         requires { ⌜ length (now bytes) ≡ 45 ⌝ }
         ensures { λ r. ⌜ r ≡ acpiSaved (now (bytes .entry)) ⌝ }

@@ -1,4 +1,6 @@
-// The ACPI event block: document 01, "ACPI block". A register is named by its offset from the block's first port.
+// The ACPI block: its state, resets, events, settling and outputs. A register is named by its offset from AC00h. See
+// docs/CHIP.md, "ACPI". `device` calls it. registers.rt and setup.rt have the registers, map.rt the maps of the pins, and
+// bytes.rt the saved form.
 mod bytes;
 mod map;
 mod registers;
@@ -25,22 +27,22 @@ ghost use Rattle.acpi.specs.Fields.{raise};
 ghost use Rattle.acpi.specs.Registers.{takes};
 ghost use Rattle.acpi.specs.Settle.{pending, sciOn, smiOn, wake};
 
-// The arrays first and then the widest field, so that there is no gap inside: a struct is copied with its gaps.
+// The arrays come first, then the widest field, so that there is no padding between fields. Padding would be copied too.
 pub struct Acpi {
-    // The map of each pin, which SETUP_DATA shows, and its level.
+    // The map and the level of each pin.
     pub maps: [u16; 8],
     pub levels: [bool; 8],
     pub timer: u32,
-    // PM1a_STS, the CPU state and whether the chip sleeps: what settling changes.
+    // PM1a_STS, the CPU state and sleeping: the fields that settling changes.
     pub pm1sts: u16,
     pub cpu: u8,
     pub sleeping: bool,
-    // PM1a_EN, GPE0_STS, GPE0_EN, and the bits that PM1a_CNT stores.
+    // PM1a_EN, GPE0_STS, GPE0_EN, and the stored bits of PM1a_CNT.
     pub pm1en: u16,
     pub gpe0sts: u16,
     pub gpe0en: u16,
     pub pm1cnt: u16,
-    // SETUP_IDX
+    // SETUP_IDX.
     pub setupidx: u16,
     // P_CNT, the IRQ, SCI_EN.
     pub pcnt: u8,
@@ -48,14 +50,14 @@ pub struct Acpi {
     pub scien: bool,
 }
 
-// An access's answer, and the block after it.
+// The answer to an access, and the block after it.
 pub struct AccessResult {
     pub block: Acpi,
     pub answer: Answer,
 }
 
 impl AccessResult {
-    // An answer that is a status alone.
+    // An answer with a status and no value.
     fn status(number: u32, block: Acpi) -> Self
         ensures { λ r. ⌜ result (r .answer) (r .block) ≡ status number block ⌝ }
     {
@@ -95,11 +97,11 @@ impl Acpi {
     pub const PWRBTNOR_STS: u16 = 0x0800;
 
     pub const WAKE_STS: u16 = 0x8000;
-    // SCI_EN as PM1a_CNT reads it.
+    // Bit 0 of PM1a_CNT reads SCI_EN.
     pub const SCI_EN: u16 = 0x0001;
-    // Bit 13 of PM1a_CNT, written 1, puts the chip to sleep.
+    // Writing 1 to bit 13 of PM1a_CNT puts the chip to sleep.
     pub const SLP_EN: u32 = 0x2000;
-    // A map value is zero above bit 12, and in bits 9 to 11; bit 8 is its direction.
+    // Map values: the largest value, bits 9 to 11 (must be 0), and bit 8 (1 for a falling edge).
     pub const MAP_LAST: u32 = 0x1FFF;
 
     pub const MAP_ZERO: u32 = 0x0E00;
@@ -111,7 +113,7 @@ impl Acpi {
     pub const IRQ_LAST: u32 = 15;
 
     pub const TIMER_SIZE: u32 = 0x0100_0000;
-    // Kinds of outside events that this block takes.
+    // The kinds of events that change this block.
     pub const TICKS: u32 = 1;
 
     pub const PIN: u32 = 2;
@@ -121,7 +123,7 @@ impl Acpi {
     pub const BUS_MASTER: u32 = 4;
 
     pub const BUTTON: u32 = 7;
-    // A pin event's new level.
+    // The bit of a pin event that is the new level.
     pub const PIN_LEVEL: u32 = 0x08;
 
     pub fn fresh() -> Self
@@ -145,7 +147,7 @@ impl Acpi {
         }
     }
 
-    // Levels 0 (PCI) and 1 (VCC) do not reach this block. Level 2 (VTR) leaves the pin levels as they are.
+    // Resets 0 (PCI) and 1 (VCC) keep the block. Reset 2 (VTR) resets all of it except the pin levels.
     pub fn reset(self, level: u32) -> Self
         ensures { λ r. ⌜ r ≡ acpiReset self level ⌝ }
     {
@@ -177,6 +179,7 @@ impl Acpi {
             & maps_in_range(maps)
     }
 
+    // Is there a status bit that is 1 and enabled?
     pub fn pending(self) -> bool
         ensures { λ r. ⌜ r ≡ pending self ⌝ }
     {
@@ -195,7 +198,7 @@ impl Acpi {
         self.pending() & !self.scien
     }
 
-    // A sleeping chip with pending wakes.
+    // A sleeping chip wakes up when a status bit is pending.
     fn wake(mut self) -> Self
         ensures { λ r. ⌜ r ≡ wake self ⌝ }
     {
@@ -206,7 +209,7 @@ impl Acpi {
         self
     }
 
-    // What follows every event and every access.
+    // `Device::settle` calls this after every access and every event.
     pub fn settle(self) -> Self
         ensures { λ r. ⌜ r ≡ acpiSettle self ⌝ }
     {
@@ -226,6 +229,7 @@ impl Acpi {
         self
     }
 
+    // The timer wrapped exactly if it is less than before, because an event has at most 65,535 ticks.
     fn tick(mut self, ticks: u32) -> Self
         ensures { λ r. ⌜ r ≡ ticked self ticks ⌝ }
     {
@@ -238,7 +242,7 @@ impl Acpi {
         self
     }
 
-    // Sets the status bit that a map value names.
+    // Sets the status bit that a map value selects, if it selects one.
     fn raise_mapped(mut self, value: u16) -> Self
         ensures { λ r. ⌜ r ≡ raiseMapped self value ⌝ }
     {
@@ -254,7 +258,7 @@ impl Acpi {
         }
     }
 
-    // A pin takes a level; a change in the mapped direction sets the mapped bit.
+    // Stores the new level of a pin. A change in the direction of its map sets the mapped status bit.
     fn pin_level(mut self, pin: usize, level: bool) -> Self
         requires { ⌜ pin < 8 ⌝ }
         ensures { λ r. ⌜ r ≡ pinLevel self pin level ⌝ }
@@ -268,7 +272,7 @@ impl Acpi {
         self
     }
 
-    // An outside event, before the settling. A kind that is another block's leaves this block as it is.
+    // An event, without the settling that follows. Kinds of other blocks do not change this block.
     pub fn event(self, kind: u32, operand: u32) -> Self
         ensures { λ r. ⌜ r ≡ acpiEvent self kind operand ⌝ }
     {
@@ -282,7 +286,7 @@ impl Acpi {
         }
     }
 
-    // A read or a write of the register at an offset, before the settling.
+    // An access to the register at an offset, without the settling that follows.
     pub fn access(self, offset: u32, access: Access) -> AccessResult
         ensures { λ r. ⌜ result (r .answer) (r .block) ≡ acpiAccess self offset access ⌝ }
     {
@@ -296,7 +300,7 @@ impl Acpi {
     }
 }
 
-// Is there a register of this width at the offset?
+// Does the block have a register of this width at the offset?
 fn takes(offset: u32, width: u32) -> bool
     ensures { λ r. ⌜ r ≡ takes offset width ⌝ }
 {

@@ -1,4 +1,4 @@
-// Reads and writes of the registers, by their offset.
+// Reads and writes of the registers, by their offset from AC00h. `Acpi::access` calls it. See docs/CHIP.md, "ACPI".
 use access::Answer;
 ghost use mathlib.Core.Path.{_≡_};
 ghost use Rattle.access.specs.Block.{result};
@@ -14,7 +14,7 @@ use crate::AccessResult;
 use crate::Acpi;
 
 impl Acpi {
-    // PM1a_CNT reads SCI_EN in bit 0.
+    // A read of PM1a_CNT. Bit 0 is SCI_EN, and bits 2 and 13 are 0, since they are not stored.
     fn control_read(self) -> u32
         ensures { λ r. ⌜ r ≡ controlRead self ⌝ }
     {
@@ -24,7 +24,7 @@ impl Acpi {
         mask::wide16(self.pm1cnt)
     }
 
-    // SMI_CMD reads 0.
+    // The value of the register at an offset. SMI_CMD reads 0.
     fn register_value(self, offset: u32) -> u32
         ensures { λ r. ⌜ r ≡ registerValue self offset ⌝ }
     {
@@ -71,7 +71,7 @@ impl Acpi {
         }
     }
 
-    // SMI_CMD
+    // A write to SMI_CMD.
     fn command_write(mut self, value: u32) -> AccessResult
         ensures { λ r. ⌜ result (r .answer) (r .block) ≡ commandWrite self value ⌝ }
     {
@@ -88,7 +88,7 @@ impl Acpi {
         }
     }
 
-    // PM1a_CNT
+    // A write to PM1a_CNT.
     fn control_write(mut self, value: u32) -> AccessResult
         ensures { λ r. ⌜ result (r .answer) (r .block) ≡ controlWrite self value ⌝ }
     {
@@ -100,6 +100,7 @@ impl Acpi {
         AccessResult::status(Answer::DONE, self)
     }
 
+    // P_LVL2, P_LVL3 and the timer are read-only.
     pub(crate) fn register_write(mut self, offset: u32, value: u32) -> AccessResult
         ensures { λ r. ⌜ result (r .answer) (r .block) ≡ registerWrite self offset value ⌝ }
     {

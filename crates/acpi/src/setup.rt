@@ -1,4 +1,5 @@
-// SETUP_IDX and SETUP_DATA: the maps of the pins, GBL_STS and the IRQ.
+// SETUP_IDX and SETUP_DATA: the maps of the pins, GBL_STS and the IRQ. registers.rt calls it. See docs/CHIP.md, "Setup
+// registers".
 use access::Answer;
 ghost use mathlib.Core.Path.{_≡_};
 ghost use Prim.Native.Nat.{_<_};

@@ -1,5 +1,5 @@
--- The fresh configuration is in range, and every reset and access leaves it so: activate and key control are stored masked,
--- the other registers take any value. Assumes nothing.
+-- The fresh configuration is in range, and every reset and every access keeps it in range: activate and key control are masked
+-- when they are stored, and the other registers take any value.
 use Prim.Native.Nat.{ℕ, _%_}
 use mathlib.Core.Path.{_≡_, refl}
 use mathlib.Core.Bool.{true}

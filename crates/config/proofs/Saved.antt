@@ -1,5 +1,5 @@
--- A configuration that is saved and loaded is the same again, and bytes that a configuration can have are saved as they were
--- loaded. Assumes nothing.
+-- A configuration that is saved and loaded is the same configuration. Bytes that can be a configuration, loaded and saved, are
+-- the same bytes.
 use Prim.Native.Nat.{ℕ, _<_}
 use mathlib.Core.Path.{_≡_, refl, _∙_}
 use mathlib.Core.Bool.{true}
@@ -13,7 +13,7 @@ use Rattle.config.specs.Base.{high, low}
 use Rattle.config.specs.Saved.{configBytes, configFrom, configSaved}
 use Rattle.config.specs.declared.Config.{Config}
 
--- the two bases fit their two bytes
+-- the bases fit two bytes; the types of the code ensure it
 pub record Typed (g : Config) : Type 0 where
   pub runtime-base : g .«runtime_base» < 65536
   pub key-base : g .«key_base» < 65536

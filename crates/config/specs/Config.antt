@@ -1,4 +1,4 @@
--- Document 01, "Configuration and key": the configuration pair and key control.
+-- The configuration: its index port and data port, its registers, and key control. See docs/CHIP.md, "Configuration".
 use Prim.Native.Nat.{ℕ, _%_}
 use mathlib.Core.Bool.{Bool, true, false, cond, _&&_}
 use lib.Bits.{bitAnd}
@@ -26,7 +26,7 @@ use Rattle.config.specs.declared.Config.{Config}
 abbrev pub freshConfig : Config
 freshConfig = config false 0 0 0 0 0 0x04
 
--- each later reset also does what reset 0 does
+-- every reset resets the whole configuration
 abbrev pub configReset : Config → ℕ → Config
 configReset g level = freshConfig
 
@@ -53,6 +53,7 @@ indexWrite g v =
 unfoldable pub indexRead : Config → Answer
 indexRead g = cond (g .unlocked) (done (g .index)) (statusOnly 1)
 
+-- the device number that all registers except 07h require
 abbrev pub runtimeDevice : ℕ
 runtimeDevice = 0x0A
 

@@ -1,4 +1,4 @@
--- The configuration with one field changed.
+-- The configuration from its fields, and the configuration with one field changed.
 use Prim.Native.Nat.{ℕ}
 use mathlib.Core.Bool.{Bool}
 use Rattle.config.specs.declared.Config.{Config}

@@ -1,5 +1,6 @@
--- The indices of the configuration registers. "Data registers: 07h device number [..]. With device number 0Ah: 30h activate [..];
--- 60h/61h runtime base high/low; 62h/63h key base high/low; F2h key control". Other files write `register.activate`.
+-- The indices of the configuration registers. See docs/CHIP.md, "Configuration". Other files refer to them as
+-- `register.activate`. "Data registers: 07h device number [..]. With device number 0Ah: 30h activate [..]; 60h/61h runtime base
+-- high/low; 62h/63h key base high/low; F2h key control"
 use Prim.Native.Nat.{ℕ}
 
 abbrev pub deviceNumber : ℕ

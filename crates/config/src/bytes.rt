@@ -1,4 +1,4 @@
-// The configuration as bytes: docs/STATE.md.
+// The configuration as 9 bytes, and back. `state` calls it. See docs/STATE.md.
 use super::Config;
 use super::ports::high;
 use super::ports::low;
@@ -40,7 +40,7 @@ impl Config {
         }
     }
 
-    // Can a configuration have these bytes?
+    // Can these bytes be a configuration? The flag must be 0 or 1.
     pub fn is_saved(bytes: &[u8]) -> bool
         requires { ⌜ length (now bytes) ≡ 9 ⌝ }
         ensures { λ r. ⌜ r ≡ configSaved (now (bytes .entry)) ⌝ }

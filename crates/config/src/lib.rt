@@ -1,5 +1,6 @@
-// The Super I/O configuration with the security key's control register: document 01, "Configuration and key".
-// The configuration pair is an index port (offset 0) and a data port (offset 1): ports.rt. Its saved form: bytes.rt.
+// The configuration block: its registers, with key control. See docs/CHIP.md, "Configuration".
+// `device` calls it. The offset of an access is 0 for the index port and 1 for the data port. ports.rt has the two ports,
+// bytes.rt the saved form.
 mod bytes;
 mod ports;
 
@@ -19,7 +20,7 @@ ghost use Rattle.config.specs.Config.{
 pub struct Config {
     pub unlocked: bool,
     pub index: u8,
-    // The device number, and the registers of device 0Ah: activate, the two bases as written, and key control.
+    // The device number, and then the registers of device 0Ah. The bases are stored as written, without their masks.
     pub number: u8,
     pub activate: u8,
     pub runtime_base: u16,
@@ -33,10 +34,10 @@ pub struct AccessResult {
 }
 
 impl Config {
-    // The offset of the index port; the other port of the pair is the data port.
+    // The offset of the index port. Any other offset is the data port.
     pub const INDEX_PORT: u32 = 0;
 
-    // What unlocks and locks the configuration at the index port.
+    // Written to the index port, these values unlock and lock the configuration.
     pub const UNLOCK: u8 = 0x55;
 
     pub const LOCK: u8 = 0xAA;
@@ -56,7 +57,7 @@ impl Config {
 
     pub const KEY_CONTROL: u8 = 0xF2;
 
-    // The device number that the other registers ask for.
+    // The device number that all registers except 07h require.
     pub const DEVICE: u8 = 0x0A;
 
     pub const ACTIVATE_MASK: u8 = 0x01;
@@ -85,13 +86,14 @@ impl Config {
         }
     }
 
-    // The lowest reset does all of it, and each later one does the same.
+    // Every reset resets the whole configuration.
     pub fn reset(self, level: u32) -> Self
         ensures { λ r. ⌜ r ≡ configReset self level ⌝ }
     {
         Config::fresh()
     }
 
+    // Only activate and key control have a mask. The other registers take any value.
     pub fn in_range(self) -> bool
         ensures { λ r. ⌜ r ≡ configInRange self ⌝ }
     {
@@ -101,7 +103,7 @@ impl Config {
         false
     }
 
-    // The bases as the monitor and the key block use them.
+    // The effective bases: the stored values with the low bits masked off.
     pub fn runtime_base(self) -> u32
         ensures { λ r. ⌜ r ≡ runtimeBase self ⌝ }
     {
@@ -145,7 +147,7 @@ impl Config {
         }
     }
 
-    // An answer that is a status alone.
+    // An answer with a status and no value.
     fn status(self, code: u32) -> AccessResult
         ensures { λ r. ⌜ result (r .answer) (r .block) ≡ status code self ⌝ }
     {

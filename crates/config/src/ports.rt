@@ -1,4 +1,4 @@
-// The index port and the data port of the configuration pair.
+// Reads and writes of the index port and the data port. `Config::access` calls them. See docs/CHIP.md, "Configuration".
 use super::AccessResult;
 use super::Config;
 use access::Answer;
@@ -17,7 +17,7 @@ ghost use Rattle.config.specs.Config.{
 };
 
 impl Config {
-    // Only 55h does anything while locked, and 55h is an index like any other while unlocked.
+    // While locked, only 55h has an effect. While unlocked, 55h is an index like any other value.
     pub fn index_write(mut self, value: u8) -> AccessResult
         ensures { λ r. ⌜ result (r .answer) (r .block) ≡ indexWrite self value ⌝ }
     {
@@ -76,7 +76,7 @@ impl Config {
         Answer::status_only(Answer::UNCLAIMED)
     }
 
-    // The registers of device 0Ah, by their index.
+    // Writes to the registers of device 0Ah.
     fn register_write(mut self, value: u8) -> AccessResult
         ensures { λ r. ⌜ result (r .answer) (r .block) ≡ registerWrite self value ⌝ }
     {
@@ -122,7 +122,7 @@ impl Config {
         }
     }
 
-    // The write that sets the lock bit stores bits 2 and 1 as well.
+    // A write that sets the lock bit also stores bits 2 and 1.
     fn control_write(mut self, value: u8) -> AccessResult
         ensures { λ r. ⌜ result (r .answer) (r .block) ≡ controlWrite self value ⌝ }
     {
@@ -134,14 +134,14 @@ impl Config {
     }
 }
 
-// A read of a register of one byte.
+// The answer to a read of a one-byte register.
 fn done(value: u8) -> Answer
     ensures { λ r. ⌜ r ≡ done value ⌝ }
 {
     Answer::done(value as u32)
 }
 
-// The two bytes of a base register.
+// The two bytes of a base.
 pub fn high(base: u16) -> u8
     ensures { λ r. ⌜ r ≡ high base ⌝ }
 {
@@ -154,6 +154,7 @@ pub fn low(base: u16) -> u8
     (base % 256) as u8
 }
 
+// The base with one of its bytes replaced.
 fn with_high(base: u16, value: u8) -> u16
     ensures { λ r. ⌜ r ≡ withHigh base value ⌝ }
 {

@@ -1,4 +1,5 @@
--- Text behind text is one text, and none of it makes a line longer or shorter. Assumes nothing.
+-- Laws of `puts`: two texts written one after the other are one text, the line keeps its length, and a text that fits is
+-- written completely.
 use Prim.Native.Nat.{ℕ, suc, _+_, _/_, _%_, _≤_}
 use mathlib.Core.Path.{_≡_, ap, refl, _∙_}
 use mathlib.Core.Bool.{Bool, true, false, cond}
@@ -13,7 +14,7 @@ pub puts-both : (xs ys : List ℕ) (l : Line) → puts (xs ++ ys) l ≡ puts ys 
 puts-both [] ys l = refl
 puts-both (x ∷ xs) ys l = puts-both xs ys (put x l)
 
--- one decimal digit, and then those of the smaller scales
+-- a decimal digit, and then the digits for the smaller powers of ten
 pub digit-then : (scale : ℕ) (scales : List ℕ) (n : ℕ) (l m : Line) {k : Line} → m ≡ puts (digitText n scale) l
     → k ≡ puts (digitsFrom scales n) m → k ≡ puts (digitsFrom (scale ∷ scales) n) l
 digit-then scale scales n l m p q = rw (puts-both (digitText n scale) (digitsFrom scales n) l, q, p)
@@ -30,7 +31,7 @@ pub puts-length : (xs : List ℕ) (l : Line) → length (puts xs l .text) ≡ le
 puts-length [] l = refl
 puts-length (x ∷ xs) l = puts-length xs (put x l) ∙ put-length x l
 
--- ---- in a line that has room, all of a text is put
+-- ---- a text that fits the line is written completely
 pub puts-whole : (xs : List ℕ) (l : Line) → l .at + length xs ≤ length (l .text) → puts xs l .at ≡ l .at + length xs
 unfolding put
 puts-whole [] l h = let e : l .at ≡ l .at + 0 = omega arith in e
@@ -41,7 +42,7 @@ puts-whole (x ∷ xs) l h =
     let e : l .at + 1 + length xs ≡ l .at + suc (length xs) = omega arith in
     ap (λ (m : Line). puts xs m .at) p ∙ puts-whole xs next (rw s (omega (arith, h))) ∙ e
 
--- ---- how long a decimal number is
+-- ---- a decimal number has at most ten digits
 digit-length : (n scale : ℕ) → length (digitText n scale) ≤ 1
 digit-length n scale = pick (leb scale n)
   where

@@ -1,11 +1,11 @@
--- Text put into a line, and numbers as text.
+-- Text that is written into a line, and numbers as text. The programs `trace` and `replay` print with it.
 use Prim.Native.Nat.{ℕ, _+_, _/_, _%_, _^_}
 use mathlib.Core.Bool.{cond}
 use mathlib.Core.List.{List, [], _∷_, _++_}
 use lib.Dec.{leb, ltb}
 use lib.ListN.{length, set}
 
--- a line, and the place in it behind what was put
+-- a line, and the index after the text written so far
 pub record Line : Type 0 where
   pub text : List ℕ
   pub at : ℕ
@@ -13,7 +13,7 @@ pub record Line : Type 0 where
 abbrev pub lineAt : List ℕ → ℕ → Line
 lineAt text at = record { text = text; at = at }
 
--- a full line takes no more
+-- writes one byte; a full line is unchanged
 unfoldable pub put : ℕ → Line → Line
 put b l = cond (ltb (l .at) (length (l .text))) (lineAt (set (l .text) (l .at) b) (l .at + 1)) l
 
@@ -31,7 +31,7 @@ byteText b = hexDigit (b / 16) ∷ hexDigit b ∷ []
 abbrev pub hexText : ℕ → List ℕ
 hexText n = byteText (n / 2 ^ 24 % 256) ++ (byteText (n / 2 ^ 16 % 256) ++ (byteText (n / 2 ^ 8 % 256) ++ byteText (n % 256)))
 
--- ---- "(decimal)": no digit that leads and is 0, but for the last
+-- ---- "(decimal)": no leading zeros; the last digit is always written
 abbrev pub digitText : (n scale : ℕ) → List ℕ
 digitText n scale = cond (leb scale n) ((0x30 + n / scale % 10) ∷ []) []
 

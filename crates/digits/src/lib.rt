@@ -1,10 +1,10 @@
-// Numbers and byte strings as text in a line: what the programs read and print. What is printed is proved; what is read has no
-// definition yet, and is compared with the independent model.
+// Numbers and text in lines, for the programs `trace` and `replay`. Printing is proved to write the text that specs/Text.antt
+// defines. Parsing has no definition; it is compared with the independent model in reference/.
 ghost use mathlib.Core.Path.{_≡_};
 ghost use Prim.Native.Nat.{_<_};
 ghost use Rattle.digits.specs.Text.{lineAt, put, puts, hexDigit, byteText, hexText, digitText, decimalText};
 
-// One to eight hex digits: their number, and the place behind them. `ok` is false where there is no such number.
+// A hex number that was read, and the index after its last digit. `ok` is false if there is no number of one to eight digits.
 pub struct Hex {
     pub ok: bool,
     pub value: u32,
@@ -34,12 +34,12 @@ pub fn digit_at(line: &[u8], at: usize) -> u8 {
     NO_DIGIT
 }
 
-// Is there nothing behind the place?
+// Has the line ended at index `at`?
 pub fn ends(line: &[u8], at: usize) -> bool {
     line.len() <= at
 }
 
-// Is there a space at the place?
+// Is there a space at index `at`?
 pub fn is_space(line: &[u8], at: usize) -> bool {
     if at < line.len() {
         return line[at] == b' ';
@@ -53,7 +53,7 @@ fn wide(b: u8) -> u32
     b as u32
 }
 
-// The digits from `at` on: all of them, so that a ninth one is no number.
+// Reads the number at index `at`. It reads up to nine digits, so that a number with more than eight is rejected.
 pub fn number(line: &[u8], at: usize) -> Hex {
     let mut value: u32 = 0;
     let mut count: usize = 0;
@@ -72,7 +72,7 @@ pub fn number(line: &[u8], at: usize) -> Hex {
     }
 }
 
-// The number behind one space at a place.
+// Reads the number that follows one space at index `at`.
 pub fn next_number(line: &[u8], at: usize) -> Hex {
     if is_space(line, at) {
         return number(line, after(at, 1));
@@ -84,12 +84,12 @@ pub fn next_number(line: &[u8], at: usize) -> Hex {
     }
 }
 
-// The place so many bytes on; no line is long enough to pass the largest number.
+// The index `count` bytes after `at`. No line is long enough for this to wrap.
 pub fn after(at: usize, count: usize) -> usize {
     std::num::wrapping_add_usize(at, count)
 }
 
-// The byte that two digits write, or 256 where there are no two digits.
+// The byte of two hex digits at index `at`, or 256 if there are not two digits.
 pub fn byte(line: &[u8], at: usize) -> u32 {
     let high = digit_at(line, at);
     let low = digit_at(line, after(at, 1));
@@ -99,7 +99,7 @@ pub fn byte(line: &[u8], at: usize) -> u32 {
     wide(high) % 16 * 16 + wide(low) % 16
 }
 
-// Puts one byte of text at a place of a line, and answers the next place. A full line takes no more.
+// Writes one byte at index `at` and returns the next index. A full line is unchanged.
 pub fn put(line: &mut [u8], at: usize, b: u8) -> usize
     ensures { λ r. ⌜ lineAt (now (line .exit)) r ≡ put b (lineAt (now (line .entry)) at) ⌝ }
 {
@@ -120,7 +120,7 @@ fn hex_digit(n: u32) -> u8
     b'A' + (d - 10)
 }
 
-// Two upper-case hex digits, and eight.
+// Writes two upper-case hex digits. `put_hex` writes eight.
 pub fn put_byte(line: &mut [u8], at: usize, b: u8) -> usize
     ensures { λ r. ⌜ lineAt (now (line .exit)) r ≡ puts (byteText b) (lineAt (now (line .entry)) at) ⌝ }
 {
@@ -139,7 +139,7 @@ pub fn put_hex(line: &mut [u8], at: usize, n: u32) -> usize
     put_byte(line, c, (n % 256) as u8)
 }
 
-// The decimal digit of `n` at a place of that scale, unless it leads and is zero.
+// Writes the decimal digit of `n` for a power of ten, unless it is a leading zero.
 fn put_place(line: &mut [u8], at: usize, n: u32, scale: u32) -> usize
     requires { ⌜ 0 < scale ⌝ }
     ensures { λ r. ⌜ lineAt (now (line .exit)) r ≡ puts (digitText n scale) (lineAt (now (line .entry)) at) ⌝ }
@@ -151,7 +151,7 @@ fn put_place(line: &mut [u8], at: usize, n: u32, scale: u32) -> usize
     at
 }
 
-// Decimal digits with no leading zero.
+// Writes `n` in decimal, without leading zeros.
 pub fn put_decimal(line: &mut [u8], at: usize, n: u32) -> usize
     ensures { λ r. ⌜ lineAt (now (line .exit)) r ≡ puts (decimalText n) (lineAt (now (line .entry)) at) ⌝ }
 {

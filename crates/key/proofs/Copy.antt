@@ -1,5 +1,4 @@
--- A loop that copies a list into another of the same length, one element after the other, has all of it at its end.
--- Assumes nothing.
+-- A loop that copies a list into another of the same length, one element at each turn: when it ends, the two are equal.
 use Prim.Native.Nat.{ℕ, _+_, _<_}
 use mathlib.Core.Path.{_≡_, sym, _∙_}
 use mathlib.Core.List.{List}

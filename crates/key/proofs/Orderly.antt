@@ -1,4 +1,4 @@
--- An access that is not done leaves the key bytes as they are, and the value answer of a write is 0. Assumes nothing.
+-- An access that is not done leaves the key bytes unchanged, and a write returns the value 0. Shown branch by branch.
 use Prim.Native.Nat.{ℕ, _%_}
 use mathlib.Core.Bool.{Bool}
 use Rattle.access.specs.Block.{takesByte}

@@ -1,4 +1,4 @@
--- The key bytes that are saved are the ones that are loaded, and bytes are saved as they were loaded. Assumes nothing.
+-- A key that is saved and loaded is the same key, and 32 bytes that are loaded and saved are the same bytes.
 use Prim.Native.Nat.{ℕ}
 use mathlib.Core.Path.{_≡_, ap}
 use mathlib.Core.List.{List}

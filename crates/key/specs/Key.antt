@@ -1,4 +1,4 @@
--- Document 01, "Configuration and key": the 32 key bytes, under the read-lock and the write-lock of key control.
+-- The 32 key bytes, under the read-lock and the write-lock of key control. See docs/CHIP.md, "Key".
 use Prim.Native.Nat.{ℕ, _%_}
 use mathlib.Core.Bool.{Bool, cond}
 use lib.Dec.{eqb, ltb}
@@ -26,7 +26,7 @@ unfoldable pub keyWrite : Key → ℕ → ℕ → ℕ → Result Key
 keyWrite k control offset v =
     cond (hasBit 0x04 control) (status 2 k) (status 0 (record { bytes = set (k .bytes) offset v }))
 
--- an access to the key byte at an offset, with key control as it is in the configuration
+-- an access to the key byte at an offset; `control` is key control, which belongs to the configuration
 unfoldable pub keyAccess : Key → ℕ → ℕ → Access → Result Key
 keyAccess k control offset x =
     cond (takesByte (x .width))

@@ -1,4 +1,4 @@
--- docs/STATE.md: the saved form of the key is its 32 bytes in order. Every byte is a key byte, so none is refused.
+-- The key as 32 bytes, in order, and back. See docs/STATE.md. Any byte can be a key byte.
 use Prim.Native.Nat.{ℕ}
 use mathlib.Core.List.{List}
 use Rattle.lists.specs.Slice.{slice}

@@ -1,5 +1,5 @@
-// The key block: 32 key bytes under the locks of key control. Document 01, "Configuration and key".
-// Key control belongs to the configuration, so the device passes it in with each access.
+// The key block: 32 key bytes, under the locks of key control. See docs/CHIP.md, "Key".
+// `device` calls it. Key control belongs to the configuration, so the device passes it with each access.
 use access::Access;
 use access::Answer;
 ghost use mathlib.Core.Path.{_≡_};
@@ -19,7 +19,7 @@ pub struct AccessResult {
 }
 
 impl Key {
-    // The bytes of its saved form.
+    // The length of the saved form.
     pub const SIZE: usize = 32;
 
     // Bits of key control.
@@ -27,7 +27,7 @@ impl Key {
 
     pub const WRITE_LOCK: u8 = 0x04;
 
-    // The reset that clears the key bytes.
+    // The only reset that clears the key bytes.
     pub const VBAT_RESET: u32 = 3;
 
     pub fn fresh() -> Self
@@ -45,6 +45,7 @@ impl Key {
         Key::fresh()
     }
 
+    // An access to the key byte at an offset. `control` is key control.
     pub fn access(self, control: u8, offset: u32, access: Access) -> AccessResult
         requires { ⌜ offset < 32 ⌝ }
         ensures { λ r. ⌜ result (r .answer) (r .block) ≡ keyAccess self control offset access ⌝ }
@@ -83,7 +84,7 @@ impl Key {
         self.status(Answer::DONE)
     }
 
-    // An answer that is a status alone.
+    // An answer with a status and no value.
     fn status(self, code: u32) -> AccessResult
         ensures { λ r. ⌜ result (r .answer) (r .block) ≡ status code self ⌝ }
     {

@@ -1,4 +1,4 @@
--- What holds of every element holds of the one at any place, and of the default beyond the end. Assumes nothing.
+-- What holds for every element and for the default holds for the element at any place, also after the end of the list.
 use Prim.Native.Nat.{ℕ, zero, suc}
 use mathlib.Core.List.{List, [], _∷_}
 use lib.ListN.{getD}

@@ -1,5 +1,5 @@
--- A list of one value holds it everywhere, beyond the end too where that is the value taken there; a slice that holds it
--- everywhere is such a list. Assumes nothing.
+-- A list of n equal values has this value at every place, also after its end if it is the default. A slice that has the same
+-- value at every place is such a list.
 use Prim.Native.Nat.{ℕ, zero, suc, _+_, _<_}
 use mathlib.Core.Path.{_≡_, refl, sym, _∙_}
 use mathlib.Core.List.{List}

@@ -1,5 +1,4 @@
--- A slice has its length and its elements; the slice of a whole list is the list; what lies in front of a list does not
--- matter. Assumes nothing.
+-- Laws of `slice`: its length, its elements, and that a slice of the whole list is the list.
 use Prim.Native.Nat.{ℕ, zero, suc, _+_, _<_}
 use mathlib.Core.Path.{_≡_, refl, ap, _∙_}
 use mathlib.Core.List.{List, [], _∷_}
@@ -17,6 +16,7 @@ slice-at z (suc n) at xs zero l = ap (λ (i : ℕ). getD xs i z) (omega arith)
 slice-at z (suc n) at xs (suc k) l =
     slice-at z n (suc at) xs k (omega arith) ∙ ap (λ (i : ℕ). getD xs i z) (omega arith)
 
+-- an element in front of the list moves the start by one
 pub slice-after : {A : Type 0} (z : A) (n at : ℕ) (x : A) (xs : List A) → slice z n (suc at) (x ∷ xs) ≡ slice z n at xs
 slice-after z zero at x xs = refl
 slice-after z (suc n) at x xs = ap (_∷_ (getD xs at z)) (slice-after z n (suc at) x xs)

@@ -1,5 +1,5 @@
--- A stack in the front of an array: a store at its height is a push, one below it changes the top. The same of a stack laid
--- out again as a list, bottom first. Assumes nothing.
+-- Laws of `stackOf`: a store at place n is a push, and a store at place n - 1 replaces the top. Then the same laws for an array
+-- that starts with a stack, bottom first.
 use Prim.Native.Nat.{ℕ, zero, suc, _+_, _-_, _≤_, _<_}
 use mathlib.Core.Path.{_≡_, refl, sym, ap, _∙_}
 use mathlib.Core.List.{List, [], _∷_, _++_, reverse, reverseAux-eq}
@@ -14,7 +14,7 @@ pub stack-length : (n : ℕ) (xs : List ℕ) → length (stackOf n xs) ≡ n
 stack-length zero xs = refl
 stack-length (suc n) xs = ap suc (stack-length n xs)
 
--- a store at or beyond the height does not show
+-- a store at place n or after it does not change the stack
 pub stack-store : (n : ℕ) (xs : List ℕ) (i v : ℕ) → n ≤ i → stackOf n (set xs i v) ≡ stackOf n xs
 stack-store zero xs i v h = refl
 stack-store (suc n) xs i v h =
@@ -40,7 +40,7 @@ stack-set-top n xs v h l =
     ∙ ap (λ (x : ℕ). x ∷ stackOf (n - 1) (set xs (n - 1) v)) (getD-set-same xs (n - 1) v 0 (omega arith))
     ∙ ap (_∷_ v) (stack-store (n - 1) xs (n - 1) v (omega arith))
 
--- ---- a stack laid out, bottom first, in front of a rest: its top is the element in front of the rest
+-- ---- an array that starts with a stack, bottom first: the top is the last element before the rest
 pub array-top : (c : ℕ) (cs rest : List ℕ) → reverse (c ∷ cs) ++ rest ≡ reverse cs ++ (c ∷ rest)
 array-top c cs rest = sym (reverseAux-eq (c ∷ cs) rest) ∙ reverseAux-eq cs (c ∷ rest)
 
@@ -50,7 +50,7 @@ array-push cs rest x v = set-at (reverse cs) x rest v (length cs) (length-revers
 pub array-set-top : (c : ℕ) (cs rest : List ℕ) (v : ℕ) → set (reverse (c ∷ cs) ++ rest) (length cs) v ≡ reverse (v ∷ cs) ++ rest
 array-set-top c cs rest v = rw (array-top c cs rest) (array-push cs rest c v)
 
--- the stack of what is laid out, and the other way
+-- from a stack to an array and back, and from an array to a stack and back
 pub stack-array : (cs rest : List ℕ) → stackOf (length cs) (reverse cs ++ rest) ≡ cs
 stack-array [] rest = refl
 stack-array (c ∷ cs) rest =

@@ -1,4 +1,4 @@
--- A list of tests holds exactly if each does, and the first that holds is found with none before it. Assumes nothing.
+-- A list of tests holds exactly if each test holds. If `firstHolding` finds a test, this test holds and none before it does.
 use Prim.Native.Nat.{ℕ, zero, suc, _+_, _<_}
 use mathlib.Core.Path.{_≡_, refl, _∙_}
 use mathlib.Core.Bool.{Bool, true, false}
@@ -8,7 +8,7 @@ use native.Mathlib.Omega.{arith}
 use Rattle.lists.specs.All.{All}
 use Rattle.lists.specs.Tests.{allHold, firstFrom, firstHolding, holdsAt}
 
--- where the first test from `at` on is found at `at + k`, the test at `k + 1` holds and none before it does
+-- the test at place k + 1, counted from 1, holds, and none before it does
 pub record FirstAt (bs : List Bool) (k : ℕ) : Type 0 where
   pub holds : holdsAt bs (suc k) ≡ true
   pub none-before : (j : ℕ) → j < k → holdsAt bs (suc j) ≡ false
@@ -32,11 +32,11 @@ first-from (false ∷ bs) at (suc k) p e =
     before f zero l = refl
     before f (suc j) l = f j (omega arith)
 
--- the first test that holds, by its place counted from 1
+-- a place that `firstHolding` returns is the place of the first test that holds
 pub first-holds : (bs : List Bool) (k : ℕ) → firstHolding bs ≡ suc k → FirstAt bs k
 first-holds bs k e = first-from bs 1 k (omega arith) (e ∙ omega arith)
 
--- and 0 exactly if none holds
+-- if it returns 0, no test holds
 pub none-from : (bs : List Bool) (at : ℕ) → 0 < at → firstFrom at bs ≡ 0 → (k : ℕ) → holdsAt bs (suc k) ≡ false
 none-from [] at p h k = refl
 none-from (true ∷ bs) at p h k = absurd (omega (arith, h))
@@ -47,7 +47,7 @@ pub none-holds : (bs : List Bool) → firstHolding bs ≡ 0 → (k : ℕ) → ho
 none-holds bs e zero = refl
 none-holds bs e (suc k) = none-from bs 1 (omega arith) e k
 
--- a list of tests holds exactly if each of them does
+-- a list of tests holds exactly if each test holds
 pub all-hold : (bs : List Bool) → All (λ b. b ≡ true) bs → allHold bs ≡ true
 all-hold [] t = refl
 all-hold (b ∷ bs) t = rw (t .0) (all-hold bs (t .1))

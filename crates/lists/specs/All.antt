@@ -1,4 +1,4 @@
--- What holds of every element of a list.
+-- `All P xs`: P holds for every element of the list.
 use mathlib.Core.List.{List, [], _∷_}
 
 abbrev pub All : {A : Type 0} → (A → Type 0) → List A → Type 0

@@ -1,4 +1,4 @@
--- So many elements of a list from a place on; beyond the list's end they are `z`.
+-- `slice z n at xs`: the n elements of the list from place `at` on. After the end of the list they are z.
 use Prim.Native.Nat.{ℕ, zero, suc}
 use mathlib.Core.List.{List, [], _∷_}
 use lib.ListN.{getD}

@@ -1,4 +1,5 @@
--- A stack kept in the front of an array: the first n elements, the last of them on top.
+-- A stack in the front of an array: the first n elements, with the last of them on top. The loop counters of the sequencer and
+-- the open blocks of a script are stored in this way.
 use Prim.Native.Nat.{ℕ, zero, suc}
 use mathlib.Core.List.{List, [], _∷_}
 use lib.ListN.{getD}

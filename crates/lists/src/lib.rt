@@ -1,1 +1,1 @@
-// Laws about lists that several crates share. Definitions only: there is no code here.
+// Lists of tests, slices and stacks: definitions and laws that several crates share. There is no code here.

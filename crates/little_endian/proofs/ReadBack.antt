@@ -1,5 +1,5 @@
--- What is written is read back, and what is read is written again as it was; what lies in front of a number's bytes does not
--- matter. Assumes nothing.
+-- A number that is written and read is the same number, and bytes that are read and written are the same bytes. Other bytes in
+-- front of them do not matter.
 use Prim.Native.Nat.{ℕ, zero, suc, _+_, _<_}
 use mathlib.Core.Path.{_≡_, refl}
 use mathlib.Core.Bool.{Bool, true, false}
@@ -52,7 +52,7 @@ byte-flag zero h = refl
 byte-flag (suc zero) h = refl
 byte-flag (suc (suc x)) h = let l : suc (suc x) < 2 = ltb-true (suc (suc x)) 2 h in absurd (omega arith)
 
--- ---- read after a front
+-- ---- read with other bytes in front
 module _ (front bytes : List ℕ) (k : ℕ) where
   pub two-after : twoAt (front ++ bytes) (length front + k) ≡ twoAt bytes k
   two-after = simp (add-assoc, getD-append-add)

@@ -5,7 +5,7 @@ use mathlib.Core.List.{List, [], _∷_}
 use lib.Dec.{eqb, ltb}
 use lib.ListN.{getD}
 
--- ---- a number's bytes
+-- ---- the bytes of a number
 abbrev pub byte0 : ℕ → ℕ
 byte0 x = x % 256
 
@@ -24,7 +24,7 @@ twoBytes x = byte0 x ∷ byte1 x ∷ []
 abbrev pub fourBytes : ℕ → List ℕ
 fourBytes x = byte0 x ∷ byte1 x ∷ byte2 x ∷ byte3 x ∷ []
 
--- ---- bytes as a number
+-- ---- the number that bytes stand for
 abbrev pub two : ℕ → ℕ → ℕ
 two a b = a + b * 256
 
@@ -45,6 +45,6 @@ flagByte false = 0
 abbrev pub flagAt : List ℕ → ℕ → Bool
 flagAt bytes at = eqb (getD bytes at 0) 1
 
--- a byte that can be a flag
+-- is the byte 0 or 1?
 abbrev pub isFlag : List ℕ → ℕ → Bool
 isFlag bytes at = ltb (getD bytes at 0) 2

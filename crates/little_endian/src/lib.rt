@@ -1,4 +1,5 @@
-// Numbers of two and four bytes, least byte first.
+// Numbers of two and four bytes, least significant byte first. See docs/CHIP.md, "Records", and docs/STATE.md.
+// `record` and the saved forms of the register blocks use it.
 ghost use mathlib.Core.Path.{_≡_};
 ghost use Prim.Native.Nat.{_+_, _≤_};
 ghost use lib.ListN.{length};
@@ -10,7 +11,7 @@ fn wide(b: u8) -> u32
     b as u32
 }
 
-// Bytes as a number.
+// The number that the bytes stand for.
 pub fn two(a: u8, b: u8) -> u16
     ensures { λ r. ⌜ r ≡ two a b ⌝ }
 {
@@ -23,7 +24,7 @@ pub fn four(a: u8, b: u8, c: u8, d: u8) -> u32
     (wide(a) + wide(b) * 256) + (wide(c) + wide(d) * 256) * 65536
 }
 
-// The number whose bytes start at a place.
+// The number whose bytes start at index `at`.
 pub fn two_at(bytes: &[u8], at: usize) -> u16
     requires { ⌜ at + 2 ≤ length (now bytes) ⌝ }
     ensures { λ r. ⌜ r ≡ twoAt (now (bytes .entry)) at ⌝ }
@@ -38,7 +39,7 @@ pub fn four_at(bytes: &[u8], at: usize) -> u32
     four(bytes[at], bytes[at + 1], bytes[at + 2], bytes[at + 3])
 }
 
-// A number's bytes, from the least on.
+// The bytes of a number, from the least significant.
 pub fn byte0(x: u32) -> u8
     ensures { λ r. ⌜ r ≡ byte0 x ⌝ }
 {

@@ -1,15 +1,15 @@
--- Laws of `bitAnd` and `bitOr` that the logic's library leaves out: each is proved digit by digit, by one lemma.
--- Assumes nothing.
+-- Laws of `bitAnd` and `bitOr` that the library of the logic does not have. Each holds because it holds for every binary digit.
 use Prim.Native.Nat.{ℕ, zero, suc, _+_, _/_, _%_, _≤_, _<_}
 use mathlib.Core.Path.{_≡_, refl, sym, ap, _∙_}
 use native.Mathlib.Omega.{arith}
 use lib.Bits.{bitAnd, bitOr, and-shr, and-mod, or-shr, or-mod}
 
--- an operation on three numbers that goes digit by digit
+-- an operation on three numbers that treats each binary digit separately
 record Digitwise (f : ℕ → ℕ → ℕ → ℕ) : Type 0 where
   half : (a b c : ℕ) → f a b c / 2 ≡ f (a / 2) (b / 2) (c / 2)
   last : (a b c : ℕ) → f a b c % 2 ≡ f (a % 2) (b % 2) (c % 2)
 
+-- two operations that agree on single digits agree on all numbers
 module _
     (f g : ℕ → ℕ → ℕ → ℕ)
     (df : Digitwise f)
@@ -29,7 +29,7 @@ module _
     same : (a b c : ℕ) → f a b c ≡ g a b c
     same a b c = upTo (a + b + c) a b c (omega arith) (omega arith) (omega arith)
 
--- an operation on two numbers that does, and two of them one inside the other
+-- the same for two numbers; `left` and `right` nest two of these operations
 record Bitwise (f : ℕ → ℕ → ℕ) : Type 0 where
   half : (a b : ℕ) → f a b / 2 ≡ f (a / 2) (b / 2)
   last : (a b : ℕ) → f a b % 2 ≡ f (a % 2) (b % 2)
@@ -59,7 +59,7 @@ and-or = record {
   last = λ a b c. or-mod (bitAnd a c) (bitAnd b c) 1 ∙ (rw (and-mod a c 1, and-mod b c 1));
 }
 
--- a law of digits, from its eight cases
+-- a law of three binary digits, from its eight cases
 eight : (P : ℕ → ℕ → ℕ → Type 0)
     → P 0 0 0 → P 0 0 1 → P 0 1 0 → P 0 1 1 → P 1 0 0 → P 1 0 1 → P 1 1 0 → P 1 1 1
     → (x y z : ℕ) → x < 2 → y < 2 → z < 2 → P x y z

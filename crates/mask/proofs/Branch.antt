@@ -1,5 +1,4 @@
--- What holds of both branches of a test holds of its outcome; `branch-on` tells each branch what the test gave. `done` closes the
--- branch of a law about the other statuses. Assumes nothing.
+-- What holds for both branches of a `cond` holds for the `cond`. With `branch-on` each branch may use the result of the test.
 use Prim.Native.Nat.{ℕ}
 use mathlib.Core.Path.{_≡_, refl}
 use mathlib.Core.Bool.{Bool, true, false, cond}
@@ -12,6 +11,6 @@ pub branch-on : {A : Type 0} (P : A → Type 0) (b : Bool) {x y : A} → (b ≡ 
 branch-on P true h k = h refl
 branch-on P false h k = k refl
 
--- status 0 is none of the others
+-- a law about statuses other than 0 says nothing about status 0
 pub done : {A : Type 0} → (_≡_ {A = ℕ} 0 0 → ⊥) → A
 done n = absurd (n refl)

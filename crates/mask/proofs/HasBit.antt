@@ -1,5 +1,4 @@
--- A law of `hasBit`: setting more bits in a register takes no shared one away, since the register only grows.
--- Assumes nothing.
+-- If a value and a mask have a common 1, they still have one after more bits of the value are set.
 use Prim.Native.Nat.{ℕ, _≤_}
 use mathlib.Core.Path.{_≡_, ap}
 use mathlib.Core.Bool.{true, not}

@@ -1,4 +1,4 @@
--- Laws of `within`: what stays within a mask. Assumes nothing.
+-- What keeps a value within a mask: masking it, clearing bits of it, and `bitOr` with a value that is also within the mask.
 use Prim.Native.Nat.{ℕ}
 use mathlib.Core.Path.{_≡_, sym, ap, _∙_}
 use mathlib.Core.Bool.{true}
@@ -7,6 +7,7 @@ use borrow.Author.Tests.{eqb-true, eq-eqb}
 use Rattle.mask.specs.Mask.{within}
 use Rattle.mask.proofs.Bits.{and-assoc, and-or-distrib}
 
+-- masking a value that is within the mask changes nothing
 pub kept : (mask v : ℕ) → within mask v ≡ true → bitAnd v mask ≡ v
 kept mask v h = eqb-true (bitAnd v mask) v h
 

@@ -1,5 +1,5 @@
--- A list whose every register passes the test of its place still does after a store of a value that passes there; a
--- store beyond the list's end changes nothing. Assumes nothing.
+-- If every element of a list passes the test of its place, this is still so after a store of a value that passes the test
+-- there. A store after the end of the list changes nothing.
 use Prim.Native.Nat.{ℕ, zero, suc}
 use mathlib.Core.Path.{_≡_}
 use mathlib.Core.Bool.{Bool, true}

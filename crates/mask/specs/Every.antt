@@ -1,4 +1,4 @@
--- A test that each of n registers passes.
+-- `allBelow n p`: the test p holds for each number below n. The blocks use it for arrays of registers.
 use Prim.Native.Nat.{ℕ, zero, suc}
 use mathlib.Core.Bool.{Bool, true, _&&_}
 

@@ -1,9 +1,10 @@
-// A register's bits under its mask: "Bits outside a register's mask are dropped and read 0."
+// Masks of registers, and write 1 to clear. See docs/CHIP.md, "Accesses". The register blocks and `device` use it.
+// "Bits outside a register's mask are dropped and read 0."
 ghost use mathlib.Core.Path.{_≡_};
 ghost use lib.Bits.{bitAnd};
 ghost use Rattle.mask.specs.Mask.{within, cleared, hasBit};
 
-// The bits of a value that a mask keeps, in a register of one byte and of two.
+// The bits of the value that are in the mask, for a register of one byte and of two bytes.
 pub fn masked8(value: u32, mask: u8) -> u8
     ensures { λ r. ⌜ r ≡ bitAnd value mask ⌝ }
 {
@@ -16,7 +17,7 @@ pub fn masked16(value: u32, mask: u16) -> u16
     (value & (mask as u32)) as u16
 }
 
-// Does the register hold only bits of its mask?
+// Are all bits of the value in the mask?
 pub fn within8(mask: u8, value: u8) -> bool
     ensures { λ r. ⌜ r ≡ within mask value ⌝ }
 {
@@ -29,7 +30,7 @@ pub fn within16(mask: u16, value: u16) -> bool
     value & mask == value
 }
 
-// Is a bit of the mask set?
+// Do the value and the mask have a common 1?
 pub fn has8(value: u8, mask: u8) -> bool
     ensures { λ r. ⌜ r ≡ hasBit mask value ⌝ }
 {
@@ -42,7 +43,7 @@ pub fn has16(value: u16, mask: u16) -> bool
     value & mask != 0
 }
 
-// Write 1 to clear.
+// Write 1 to clear: each bit that is 1 in `ones` becomes 0. The other bits are unchanged.
 pub fn cleared8(register: u8, ones: u8) -> u8
     ensures { λ r. ⌜ r ≡ cleared 0xFF register ones ⌝ }
 {

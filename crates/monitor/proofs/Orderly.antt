@@ -1,5 +1,5 @@
--- "Apart from the settling below, statuses 1 to 5 change nothing", and "A write's value answer is 0": of every access to the
--- monitor, branch by branch. Assumes nothing.
+-- For every access to the monitor, branch by branch: "Apart from the settling below, statuses 1 to 5 change nothing", and "A
+-- write's value answer is 0".
 use Prim.Native.Nat.{ℕ, _%_}
 use mathlib.Core.Bool.{Bool, true, false, cond}
 use lib.Dec.{eqb}

@@ -1,5 +1,5 @@
--- The fresh monitor is in range, and reset, access and event leave it so: what is stored is masked, or set or cleared within
--- the mask, and each register that can change has a slot of its own. Assumes nothing.
+-- The fresh monitor is in range, and every reset, access and event keeps it in range: values are masked when they are stored,
+-- and bits are set and cleared only within the mask.
 use Prim.Native.Nat.{ℕ, _-_, _%_, _<_}
 use mathlib.Core.Path.{_≡_, refl}
 use mathlib.Core.Bool.{true}
@@ -46,7 +46,7 @@ use Rattle.monitor.specs.Table.{
 }
 use Rattle.monitor.specs.declared.Monitor.{Monitor}
 
--- each reset lies within its mask, so the fresh monitor does
+-- each reset value is within its mask, so the fresh monitor is in range
 pub fresh-in-range : monitorInRange freshMonitor ≡ true
 fresh-in-range =
     all-true 12 (λ k. within (maskOf (getD storedIndices k 0)) (getD (map resetOf storedIndices) k 0))
@@ -61,7 +61,7 @@ module _ (m : Monitor) (h : monitorInRange m ≡ true) where
   pub reset-in-range : (level : ℕ) → monitorInRange (monitorReset m level) ≡ true
   reset-in-range level = branch (λ n. monitorInRange n ≡ true) (eqb level 0) h fresh-in-range
 
-  -- ---- the register at an index whose kind can change
+  -- ---- the register at an index, if it is stored
   module _ (i : ℕ) (s : readOnly < kindOf i) where
     register-within : within (maskOf i) (register m i) ≡ true
     register-within =

@@ -1,5 +1,5 @@
--- A monitor that is saved and loaded is the same again, bytes of a monitor are saved as they were loaded, and each byte is
--- what its register reads. Assumes nothing.
+-- A monitor that is saved and loaded is the same monitor. Bytes that can be a monitor, loaded and saved, are the same bytes.
+-- Each byte after the index is what a read of its register returns.
 use Prim.Native.Nat.{ℕ, suc, _<_}
 use mathlib.Core.Path.{_≡_, refl, sym, ap, _∙_}
 use mathlib.Core.Bool.{true, not}
@@ -18,6 +18,7 @@ use Rattle.monitor.specs.Saved.{monitorBytes, monitorFrom, monitorSaved,
 use Rattle.monitor.specs.Table.{absent, kindOf, listedIndices, readOnlyIndices, resetOf}
 use Rattle.monitor.specs.declared.Monitor.{Monitor}
 
+-- the array has 12 elements; the types of the code ensure it
 pub record Typed (m : Monitor) : Type 0 where
   pub registers : length (m .registers) ≡ 12
 
@@ -54,7 +55,7 @@ save-back bytes n byte h = kept ∙ slice-whole 0 20 bytes n
           at-reset 6 (omega arith),
         )
 
--- the k-th of the nineteen bytes after the index is what reading the k-th listed register gives
+-- byte k + 1 is what a read of the k-th listed register returns
 pub byte-reads :
     (m : Monitor) (k : ℕ) → k < 19
     → dataRead (withIndex m (getD listedIndices k 0)) .answer ≡ done (getD (monitorBytes m) (suc k) 0)

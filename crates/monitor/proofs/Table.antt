@@ -1,5 +1,5 @@
--- The monitor's tables: an entry of a constant table is what document 01's table says, each reset lies within its mask, and
--- each register that can change has a slot of its own. Assumes nothing.
+-- Laws of the monitor table: an entry of a constant array is the entry of the table, each reset value is within its mask, and
+-- each stored register has its own place.
 use Prim.Native.Nat.{ℕ, zero, suc, _+_, _≤_, _<_}
 use mathlib.Core.Path.{_≡_, refl, sym, ap, _∙_}
 use mathlib.Core.Bool.{Bool, true, _&&_, _||_, and-false}
@@ -15,7 +15,7 @@ use Rattle.mask.specs.Every.{allBelow}
 use Rattle.mask.specs.Mask.{within}
 use Rattle.monitor.specs.Table.{Row, absent, kindOf, maskOf, readOnly, resetOf, rowIn, slotOf, storedIndices, table}
 
--- ---- the n values of f from i on: what a constant table of f has to be
+-- ---- the values of f at i, i + 1 and so on, n of them: a constant array has to be this list
 abbrev tabulate : (ℕ → ℕ) → ℕ → ℕ → List ℕ
 tabulate f i zero = []
 tabulate f i (suc n) = f i ∷ tabulate f (suc i) n
@@ -33,7 +33,7 @@ map-at f [] k h = absurd (omega arith)
 map-at f (x ∷ xs) zero h = refl
 map-at f (x ∷ xs) (suc k) h = map-at f xs k (omega arith)
 
--- ---- each reset lies within its mask: one test, computed over the 256 entries
+-- ---- each reset value is within its mask: one test, computed for all 256 entries
 abbrev resetWithin : ℕ → Bool
 resetWithin i = within (maskOf i) (resetOf i)
 
@@ -43,7 +43,7 @@ resets-within = refl
 pub reset-within : (i : ℕ) → i < 256 → within (maskOf i) (resetOf i) ≡ true
 reset-within = all-at 256 resetWithin resets-within
 
--- ---- each register that can change has a slot of its own: one test, computed over the 256 entries; no row lies above them
+-- ---- each stored register has its own place: one test, computed for all 256 entries; no row has a larger index
 abbrev placed : ℕ → Bool
 placed i = leb (kindOf i) readOnly || (ltb (slotOf i) 12 && eqb (getD storedIndices (slotOf i) 0) i)
 

@@ -1,4 +1,4 @@
--- Document 01, "Monitor registers": index, data, Lock, the interrupt, the sensor event, and the reset.
+-- The monitor: index, data register, Lock, sensor event, interrupt and reset. See docs/CHIP.md, "Monitor".
 use Prim.Native.Nat.{ℕ, _%_}
 use mathlib.Core.Bool.{Bool, cond, _&&_, _||_}
 use mathlib.Core.List.{List, map}
@@ -28,15 +28,15 @@ use Rattle.monitor.specs.declared.Monitor.{Monitor}
 abbrev pub monitor : ℕ → List ℕ → Monitor
 monitor index registers = record { index = index; registers = registers }
 
--- the register at an index, of those that can change
+-- the stored register at an index
 abbrev pub register : Monitor → ℕ → ℕ
 register m i = getD (m .registers) (slotOf i) 0
 
--- the monitor with a value in that register
+-- the monitor with a value stored in this register
 abbrev pub stored : Monitor → ℕ → ℕ → Monitor
 stored m i v = monitor (m .index) (set (m .registers) (slotOf i) v)
 
--- what the register at a listed index reads: a read-only register is at its reset
+-- the value of the register at a listed index; a read-only register always has its reset value
 abbrev pub registerOf : Monitor → ℕ → ℕ
 registerOf m i = cond (eqb (kindOf i) readOnly) (resetOf i) (register m i)
 
@@ -70,7 +70,7 @@ lockSet m = hasBit 0x02 (register m 0x40)
 unfoldable pub lockableWrite : Monitor → ℕ → ℕ → Result Monitor
 lockableWrite m i v = cond (lockSet m) (status 2 m) (status 0 (stored m i v))
 
--- a write to the register at an index, by its kind, in the table's order. "Lock is bit 1: writing 1 sets it, 0 does nothing"
+-- a write to the register at an index, by its kind. "Lock is bit 1: writing 1 sets it, 0 does nothing"
 unfoldable pub writeAs : ℕ → Monitor → ℕ → ℕ → Result Monitor
 writeAs kind m i v =
     cond (eqb kind lock) (lockableWrite m i (bitOr (register m i) (bitAnd v (maskOf i))))

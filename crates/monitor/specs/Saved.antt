@@ -1,4 +1,4 @@
--- docs/STATE.md: a monitor as 20 bytes, its index and then what each listed register reads, and back.
+-- The monitor as 20 bytes, and back: the index, and then the value of each listed register. See docs/STATE.md.
 use Prim.Native.Nat.{ℕ}
 use mathlib.Core.Bool.{Bool}
 use mathlib.Core.List.{List, _∷_, map}

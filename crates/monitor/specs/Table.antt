@@ -1,4 +1,4 @@
--- Document 01, "Monitor registers": the table of registers, and the lists of indices that follow from it.
+-- The table of the monitor registers, and the lists of indices that follow from it. See docs/CHIP.md, "Monitor".
 use Prim.Native.Nat.{ℕ, zero, suc, _-_}
 use mathlib.Core.Bool.{Bool, true, not, cond, _&&_}
 use mathlib.Core.List.{List, [], _∷_, _++_}
@@ -6,7 +6,7 @@ use lib.Dec.{leb, eqb}
 use lib.ListN.{getD, length}
 use Rattle.mask.specs.Every.{allBelow}
 
--- a row of the table: first and last index, kind, reset, mask
+-- a row of the table: first and last index, kind, reset value, mask
 pub record Row : Type 0 where
   pub first : ℕ
   pub last : ℕ
@@ -14,8 +14,8 @@ pub record Row : Type 0 where
   pub reset : ℕ
   pub mask : ℕ
 
--- ---- the column "Kind", with the column "Locked by Lock": `lock` is 40h itself, `lockable` read/write and locked by
--- Lock, `unlocked` read/write and not locked
+-- ---- the columns "Kind" and "Locked by Lock": `lock` is 40h itself, `lockable` is read/write and locked by Lock,
+-- `unlocked` is read/write and never locked
 abbrev pub absent : ℕ
 absent = 0
 
@@ -37,7 +37,7 @@ write1Clears = 5
 abbrev row : ℕ → ℕ → ℕ → ℕ → ℕ → Row
 row f l k r m = record { first = f; last = l; kind = k; reset = r; mask = m }
 
--- a read-only register keeps all of its bits
+-- the mask of a read-only register is FFh, so that its reset value is within it
 abbrev pub table : List Row
 table =
     row 0x40 0x40 lock 0x00 0x02
@@ -70,7 +70,7 @@ resetOf i = rowIn i table .reset
 abbrev pub maskOf : ℕ → ℕ
 maskOf i = rowIn i table .mask
 
--- ---- the indices of the rows whose kind passes a test, in the table's order
+-- ---- the indices of the rows whose kind passes a test, in the order of the table
 abbrev pub upFrom : ℕ → ℕ → List ℕ
 upFrom i zero = []
 upFrom i (suc n) = i ∷ upFrom (suc i) n
@@ -79,7 +79,7 @@ abbrev pub indicesIn : (ℕ → Bool) → List Row → List ℕ
 indicesIn kinds [] = []
 indicesIn kinds (r ∷ rs) = cond (kinds (r .kind)) (upFrom (r .first) (suc (r .last) - r .first)) [] ++ indicesIn kinds rs
 
--- all nineteen
+-- all 19 registers
 abbrev pub listedIndices : List ℕ
 listedIndices = indicesIn (λ k. true) table
 
@@ -87,19 +87,19 @@ listedIndices = indicesIn (λ k. true) table
 abbrev pub readOnlyIndices : List ℕ
 readOnlyIndices = indicesIn (λ k. eqb k readOnly) table
 
--- the twelve that can change, which a monitor stores in this order: 40h, 7Ch, 7Eh, 80h to 83h, 90h, 91h, B5h to B7h
+-- the 12 registers that can change, in the order in which they are stored: 40h, 7Ch, 7Eh, 80h to 83h, 90h, 91h, B5h to B7h
 abbrev pub storedIndices : List ℕ
 storedIndices = indicesIn (λ k. not (eqb k readOnly)) table
 
--- a test that each index of a list passes
+-- each index of a list passes a test
 abbrev pub allOf : List ℕ → (ℕ → Bool) → Bool
 allOf indices passes = allBelow (length indices) (λ k. passes (getD indices k 0))
 
--- the place of an index in a list, counted from k; the end of the list where the index is not in it
+-- the place of an index in a list, counted from k; the place after the last if the index is not in the list
 abbrev pub placeIn : ℕ → ℕ → List ℕ → ℕ
 placeIn i k [] = k
 placeIn i k (j ∷ js) = cond (eqb i j) k (placeIn i (suc k) js)
 
--- where a register is stored; 12, which is no slot, for one that is not
+-- the place of a register among the stored registers; 12 if it is not stored
 abbrev pub slotOf : ℕ → ℕ
 slotOf i = placeIn i 0 storedIndices

@@ -1,4 +1,5 @@
-// A monitor as bytes: its index, then the nineteen listed registers in the order of docs/STATE.md, and back.
+// The monitor as 20 bytes, and back: the index, and then the 19 registers in the order of their indices. `state` calls it. See
+// docs/STATE.md.
 use crate::Monitor;
 ghost use mathlib.Core.Path.{_≡_};
 ghost use lib.ListN.{length};
@@ -7,7 +8,7 @@ ghost use Rattle.monitor.specs.Saved.{monitorBytes, monitorFrom, monitor
 impl Monitor {
     pub const SIZE: usize = 20;
 
-    // A read-only register is saved at its reset.
+    // A read-only register is saved with its reset value.
     pub fn to_bytes(self) -> [u8; Monitor::SIZE]
         ensures { λ r. ⌜ r ≡ monitorBytes self ⌝ }
     {
@@ -68,7 +69,7 @@ impl Monitor {
         }
     }
 
-    // Are these bytes those of a monitor? The read-only registers 6Eh, 6Fh and 84h to 88h are at their reset.
+    // Can these bytes be a monitor? The read-only registers 6Eh, 6Fh and 84h to 88h must have their reset values.
     pub fn is_saved(bytes: &[u8]) -> bool
         requires { ⌜ length (now bytes) ≡ 20 ⌝ }
         ensures { λ r. ⌜ r ≡ monitorSaved (now (bytes .entry)) ⌝ }

@@ -1,5 +1,5 @@
-// Part of the hardware monitor: document 01, "Monitor registers". An index register and a data register, whose ports the
-// device knows. `tables` has the register table, `bytes` the saved form.
+// The monitor: an index register, and a data register that accesses the register at the index. See docs/CHIP.md, "Monitor".
+// `device` calls it and knows its ports. tables.rt has the register table, bytes.rt the saved form.
 mod bytes;
 mod tables;
 
@@ -27,7 +27,7 @@ ghost use Rattle.monitor.specs.Monitor.{
 };
 ghost use Rattle.monitor.specs.Table.{kindOf, maskOf, resetOf, slotOf};
 
-// What can change is stored: the registers at 40h, 7Ch, 7Eh, 80h to 83h, 90h, 91h and B5h to B7h, in this order.
+// Only registers that can change are stored: 40h, 7Ch, 7Eh, 80h to 83h, 90h, 91h and B5h to B7h, in this order.
 pub struct Monitor {
     pub index: u8,
     pub registers: [u8; 12],
@@ -62,7 +62,7 @@ impl AccessResult {
 }
 
 impl Monitor {
-    // Kinds of register. A lockable one is read/write and locked by Lock, an unlocked one read/write and not locked.
+    // Kinds of registers. LOCK is 40h itself. LOCKABLE is read/write and locked by Lock, UNLOCKED is read/write and never locked.
     pub const ABSENT: u8 = 0;
 
     pub const READ_ONLY: u8 = 1;
@@ -75,7 +75,7 @@ impl Monitor {
 
     pub const WRITE_1_CLEARS: u8 = 5;
 
-    // Lock, in 40h; INTEN, in 7Ch; VTR, VBAT and VOLT, enabled in 7Eh; VBAT and VTR, seen in 83h.
+    // Bits: Lock in 40h, INTEN in 7Ch, the enables in 7Eh, the voltage status in 83h.
     pub const LOCK_BIT: u8 = 0x02;
 
     pub const INTEN: u8 = 0x04;
@@ -90,7 +90,7 @@ impl Monitor {
 
     pub const VTR_STATUS: u8 = 0x01;
 
-    // The slots of 40h, 7Ch, 7Eh and 83h.
+    // The places of 40h, 7Ch, 7Eh and 83h in `registers`.
     const SLOT_40: usize = 0;
 
     const SLOT_7C: usize = 1;
@@ -99,10 +99,10 @@ impl Monitor {
 
     const SLOT_83: usize = 6;
 
-    // The kind of event that a sensor makes.
+    // The kind of a sensor event.
     pub const SENSOR: u32 = 5;
 
-    // The index's offset; the data register is at the next.
+    // The offset of the index register. Any other offset is the data register.
     pub const INDEX_PORT: u32 = 0;
 
     pub fn fresh() -> Self
@@ -114,7 +114,7 @@ impl Monitor {
         }
     }
 
-    // A PCI reset keeps the monitor.
+    // Reset 0 (PCI) keeps the monitor. The other resets reset all of it.
     pub fn reset(self, level: u32) -> Self
         ensures { λ r. ⌜ r ≡ monitorReset self level ⌝ }
     {
@@ -124,7 +124,7 @@ impl Monitor {
         }
     }
 
-    // Every register within its mask.
+    // Is every stored register within its mask?
     pub fn in_range(self) -> bool
         ensures { λ r. ⌜ r ≡ monitorInRange self ⌝ }
     {
@@ -169,6 +169,7 @@ impl Monitor {
         self.data_read()
     }
 
+    // A read-only register always has its reset value.
     fn data_read(self) -> AccessResult
         ensures { λ r. ⌜ result (r .answer) (r .block) ≡ dataRead self ⌝ }
     {
@@ -203,13 +204,14 @@ impl Monitor {
         }
     }
 
-    // Lock is bit 1 of 40h, whatever the index.
+    // Lock is bit 1 of 40h. The index does not matter.
     fn lock_set(self) -> bool
         ensures { λ r. ⌜ r ≡ lockSet self ⌝ }
     {
         self.registers[Monitor::SLOT_40] & Monitor::LOCK_BIT != 0
     }
 
+    // A write to a register that Lock locks.
     fn lockable_write(self, index: u8, value: u8) -> AccessResult
         requires { ⌜ slotOf index < 12 ⌝ }
         ensures { λ r. ⌜ result (r .answer) (r .block) ≡ lockableWrite self index value ⌝ }
@@ -238,7 +240,7 @@ impl Monitor {
         Monitor::MASK[index as usize]
     }
 
-    // Where the register at an index is stored; 12 for one that is not.
+    // The place in `registers` of the register at an index; 12 if it is not stored.
     fn slot_of(index: u8) -> usize
         ensures { λ r. ⌜ r ≡ slotOf index ⌝ }
     {
@@ -276,7 +278,7 @@ impl Monitor {
         self
     }
 
-    // A sensor sets its bits in 83h and clears none; no other event concerns the monitor.
+    // A sensor event sets bits of 83h and clears none. Other events do not change the monitor.
     pub fn event(mut self, kind: u32, operand: u32) -> Self
         ensures { λ r. ⌜ r ≡ monitorEvent self kind operand ⌝ }
     {
@@ -287,7 +289,7 @@ impl Monitor {
         self
     }
 
-    // INTEN, VOLT, and both VTR bits or both VBAT bits of 7Eh and 83h.
+    // The monitor interrupt: INTEN and VOLT enable, and both VTR bits (enable and status) or both VBAT bits.
     pub fn interrupt(self) -> bool
         ensures { λ r. ⌜ r ≡ interrupt self ⌝ }
     {
@@ -300,5 +302,3 @@ impl Monitor {
                 | (enable & Monitor::VBAT_ENABLE != 0) & (status & Monitor::VBAT_STATUS != 0))
     }
 }
-
-// The monitor's ports take one byte.

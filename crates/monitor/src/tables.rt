@@ -1,5 +1,6 @@
-// The monitor's registers by index, as document 01's table lists them: "The table has 256 entries; those not listed are
-// status 4." A comment names each sixteenth index.
+// Kind, reset value and mask of each monitor register, by index. See docs/CHIP.md, "Monitor". The proofs of `kind_of`,
+// `reset_of` and `mask_of` compare the arrays with the table in specs/Table.antt. "The table has 256 entries; those not listed
+// are status 4." A comment marks every sixteenth index.
 use crate::Monitor;
 
 impl Monitor {
@@ -828,7 +829,7 @@ impl Monitor {
         0x00,
     ];
 
-    // The entries of the registers that can change, in the order in which a monitor stores them, and of the read-only ones.
+    // The entries of the stored registers, in the order of `registers`, and then those of the read-only registers.
     pub const STORED_RESET: [u8; 12] = [
         Monitor::RESET[0x40],
         Monitor::RESET[0x7C],

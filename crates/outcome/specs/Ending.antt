@@ -1,4 +1,5 @@
--- How a run ends: "A run ends with 0 halted, 19 budget spent, or a fault". Other files write `ending.halted`.
+-- The numbers of the endings of a run. See docs/CHIP.md, "Runs". Other files refer to them as `ending.halted`.
+-- "A run ends with 0 halted, 19 budget spent, or a fault"
 use Prim.Native.Nat.{ℕ}
 
 -- "0 halted"

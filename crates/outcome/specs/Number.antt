@@ -1,4 +1,4 @@
--- The numbers of the refusals, each named once. Other files write `number.badLength`.
+-- The numbers of the refusals, each named once. See docs/CHIP.md, "Refusals". Other files refer to them as `number.badLength`.
 use Prim.Native.Nat.{ℕ}
 
 -- "script length no multiple of 12, or over 1,024 records (0)"
@@ -13,7 +13,7 @@ wrongMark = 2
 abbrev pub badKind : ℕ
 badKind = 3
 
--- "bad width, value or unused field"; a lone access: "width, port, or a write value too wide"
+-- "bad width, value or unused field"; for a single access: "width, port, or a write value too wide"
 abbrev pub badField : ℕ
 badField = 4
 

@@ -1,12 +1,13 @@
-// Refusals and the endings of a run: their numbers, each named once. There is no code here.
+// The numbers of the refusals and of the endings of a run, each named once. See docs/CHIP.md, "Refusals" and "Runs".
+// The crates that refuse a call or end a run use them. There is no code here.
 
-// A refusal's number and its place. Number 0 means that nothing was refused.
+// Number 0 means that nothing was refused.
 pub struct Refusal {
     pub number: u32,
     pub place: u32,
 }
 
-// ---- the compiler
+// ---- Refusals by the compiler.
 
 pub const BAD_LENGTH: u32 = 1;
 
@@ -14,7 +15,7 @@ pub const WRONG_MARK: u32 = 2;
 
 pub const BAD_KIND: u32 = 3;
 
-// Also for an access: its width is not 1, 2 or 4, its value does not fit the width, or its port exceeds 65,535.
+// Also a single access with a wrong width, a port above FFFFh, or a written value that does not fit the width.
 pub const BAD_FIELD: u32 = 4;
 
 pub const MISPLACED: u32 = 5;
@@ -27,7 +28,7 @@ pub const TOO_MANY_WORDS: u32 = 8;
 
 pub const BUFFER_TOO_SHORT: u32 = 9;
 
-// ---- the sequencer and the lone calls
+// ---- Refusals by runs and by single calls.
 
 pub const BAD_IMAGE: u32 = 10;
 
@@ -35,7 +36,7 @@ pub const BAD_STATE: u32 = 11;
 
 pub const BAD_EVENT: u32 = 12;
 
-// ---- how a run ends
+// ---- Endings of a run.
 
 pub const HALTED: u32 = 0;
 

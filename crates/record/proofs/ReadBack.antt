@@ -1,5 +1,4 @@
--- Reading the twelve bytes of a record gives the record back, wherever they lie, if its fields fit their bytes.
--- Assumes nothing.
+-- A record that is written and read is the same record, wherever its bytes are, if each field fits its bytes.
 use Prim.Native.Nat.{ℕ, _+_, _<_}
 use mathlib.Core.Path.{_≡_, refl, _∙_}
 use mathlib.Core.List.{List, _++_}
@@ -24,7 +23,7 @@ pub twelve-bytes : (r : Record) → length (bytesOf r) ≡ recordSize
 unfolding bytesOf
 twelve-bytes r = refl
 
--- what lies in front does not matter
+-- other bytes in front do not matter
 after-front : (front bytes : List ℕ) → recordAt (front ++ bytes) (length front) ≡ recordAt bytes 0
 unfolding recordAt
 after-front front bytes =

@@ -1,5 +1,4 @@
--- A store right after the elements already written to the front of a list: one more is written, and the rest stays.
--- Assumes nothing.
+-- A list starts with bs, and the rest is that of xs. A store right after bs adds one element to bs and leaves the rest.
 use Prim.Native.Nat.{ℕ, suc, _<_}
 use mathlib.Core.Path.{_≡_}
 use mathlib.Core.List.{List, [], _∷_, _++_}

@@ -1,5 +1,5 @@
--- Document 01, "Scripts and images": "Records of 12 bytes: mark (2), kind, width, port (2), target (2), value (4), least
--- byte first."
+-- The record of 12 bytes that scripts and images share. See docs/CHIP.md, "Records".
+-- "Records of 12 bytes: mark (2), kind, width, port (2), target (2), value (4), least byte first."
 use Prim.Native.Nat.{ℕ, _+_}
 use mathlib.Core.List.{List, [], _∷_}
 use lib.ListN.{getD}
@@ -9,11 +9,11 @@ use Rattle.record.specs.declared.Record.{Record}
 abbrev pub recordSize : ℕ
 recordSize = 12
 
--- the most records of a script, and the most words of an image: "over 1,024 records", "over 1,024 words"
+-- the largest number of records in a script and of words in an image: "over 1,024 records", "over 1,024 words"
 abbrev pub mostRecords : ℕ
 mostRecords = 1024
 
--- the record whose twelve bytes start at a place
+-- the record whose 12 bytes start at a place
 unfoldable pub recordAt : List ℕ → ℕ → Record
 recordAt bytes at = record {
   mark = twoAt bytes at;
@@ -24,7 +24,7 @@ recordAt bytes at = record {
   value = fourAt bytes (at + 8);
 }
 
--- its twelve bytes
+-- the 12 bytes of a record
 unfoldable pub bytesOf : Record → List ℕ
 bytesOf r =
     byte0 (r .mark) ∷ byte1 (r .mark) ∷ byte0 (r .kind) ∷ byte0 (r .width) ∷ byte0 (r .port) ∷ byte1 (r .port)

@@ -1,5 +1,5 @@
-// The 12-byte record that scripts and images share: mark (2), kind, width, port (2), target (2), value (4), least byte
-// first.
+// The record of 12 bytes that scripts and images share. See docs/CHIP.md, "Records".
+// `script` and `compiler` read the records of a script, `compiler` writes the words of an image, and `sequencer` reads them.
 use little_endian::byte0;
 use little_endian::byte1;
 use little_endian::byte2;
@@ -24,15 +24,15 @@ pub struct Record {
 impl Record {
     pub const SIZE: usize = 12;
 
-    // The most records of a script, and the most words of an image.
+    // The largest number of records in a script and of words in an image.
     pub const MOST: usize = 1024;
-    // 5A A5 and C3 3C, in the order of the bytes.
+    // The marks as numbers. In the bytes they are 5Ah A5h and C3h 3Ch.
     pub const SCRIPT_MARK: u32 = 0xA55A;
 
     pub const WORD_MARK: u32 = 0x3CC3;
 }
 
-// The kind of the record that starts at an offset.
+// The kind of the record that starts at offset `at`.
 pub fn kind_at(bytes: &[u8], at: usize) -> u32
     requires { ⌜ at + recordSize ≤ length (now bytes) ⌝ }
     ensures { λ r. ⌜ r ≡ recordAt (now (bytes .entry)) at .kind ⌝ }
@@ -40,7 +40,7 @@ pub fn kind_at(bytes: &[u8], at: usize) -> u32
     bytes[at + 2] as u32
 }
 
-// The record that starts at an offset.
+// The record that starts at offset `at`.
 pub fn read(bytes: &[u8], at: usize) -> Record
     requires { ⌜ at + recordSize ≤ length (now bytes) ⌝ }
     ensures { λ r. ⌜ r ≡ recordAt (now (bytes .entry)) at ⌝ }
@@ -61,7 +61,7 @@ pub fn read(bytes: &[u8], at: usize) -> Record
     }
 }
 
-// Writes the record into the first twelve bytes of a part.
+// Writes the record to the first 12 bytes of `part`. The other bytes are unchanged.
 pub fn write(part: &mut [u8], word: Record)
     requires { ⌜ recordSize ≤ length (now part) ⌝ }
     ensures { λ _. ⌜ now (part .exit) ≡ bytesOf word ++ drop recordSize (now (part .entry)) ⌝ }

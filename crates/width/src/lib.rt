@@ -1,4 +1,5 @@
-// The width of an access, 1, 2 or 4 bytes, and the values that it can carry.
+// The width of an access (1, 2 or 4 bytes) and the values that fit it. See docs/CHIP.md, "Accesses".
+// `access`, `device` and `script` use it.
 ghost use mathlib.Core.Path.{_≡_};
 ghost use Rattle.width.specs.Width.{isWidth, allOnes, fitsWidth};
 
@@ -14,7 +15,7 @@ pub fn is_width(width: u32) -> bool
     width == 4
 }
 
-// What a read of this width gives where nobody answers; also the largest value of the width.
+// The largest value of the width. A read with status 1 returns it.
 pub fn all_ones(width: u32) -> u32
     ensures { λ r. ⌜ r ≡ allOnes width ⌝ }
 {

@@ -1,4 +1,4 @@
--- `access::read_gives` meets its contract. Assumes nothing.
+-- `access::read_gives` returns what `readGives` defines: the code tests status 0 and then status 1, as the definition does.
 use borrow.Author.Tests.{eq-eqb, ne-eqb}
 use Rattle.access.specs.Status.{readGives}
 use borrow.Author.Needs.{needs}

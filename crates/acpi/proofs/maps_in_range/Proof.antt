@@ -1,4 +1,4 @@
--- `acpi::maps_in_range` meets its contract: the loop has found every map before `k` legal. Assumes nothing.
+-- `acpi::maps_in_range` returns true exactly if all maps are legal: at turn k of the loop the first k maps are legal.
 use Prim.Native.Nat.{_≤_, _-_}
 use mathlib.Core.Path.{_≡_, refl, sym, _∙_}
 use mathlib.Core.Bool.{true}
@@ -17,7 +17,7 @@ Inv-loop maps k₀ k = (k ≤ 8) × (allBelow k (mapInRange maps) ≡ true)
 abbrev μ-loop : tie.MeasureT-loop
 μ-loop maps k₀ k = 8 - k
 
--- the map at `k`, as the code tests it
+-- what the code tests at turn k is `mapInRange`
 tested : (c : tie.After-is-legal Inv-loop μ-loop) → c .is-legal .result ≡ mapInRange (c .before .before .before .before .args .t1) (c .before .before .before .loop .k)
 tested c = rw (c .before .wide16 .ensures) at (c .is-legal .ensures)
 

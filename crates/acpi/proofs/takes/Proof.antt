@@ -1,4 +1,4 @@
--- `acpi::takes` meets its contract: each arm is the definition's at its offset. Assumes nothing.
+-- `acpi::takes` returns what `takes` defines: one arm of the `match` for each offset.
 use borrow.Author.Tests.{ne-eqb}
 use Rattle.acpi.specs.Registers.{takes}
 use Rattle.acpi.proofs.takes.Statement.{statement}

@@ -1,4 +1,4 @@
--- `digits::hex_digit` meets its contract. Assumes nothing.
+-- `digits::hex_digit` returns what `hexDigit` defines: 0 to 9 and A to F are separate cases in both.
 use native.Mathlib.Omega.{arith}
 use borrow.Author.Tests.{le-ltb, lt-ltb}
 use borrow.Author.Needs.{needs}

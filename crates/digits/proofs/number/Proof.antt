@@ -1,4 +1,4 @@
--- `digits::number` meets its contract. Assumes nothing.
+-- `digits::number` has no definition. The proof shows that its loop ends, after at most nine digits, and that nothing overflows.
 use Prim.Native.Nat.{_≤_, _-_}
 use mathlib.Core.Path.{_≡_}
 use lib.ListN.{length}

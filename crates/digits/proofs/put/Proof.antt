@@ -1,4 +1,4 @@
--- `digits::put` meets its contract. Assumes nothing.
+-- `digits::put` does what `put` defines: it writes the byte if the line has room.
 use borrow.Author.Tests.{le-ltb, lt-ltb}
 use Rattle.digits.specs.Text.{put}
 use borrow.Author.Needs.{needs}

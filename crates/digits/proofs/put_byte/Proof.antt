@@ -1,4 +1,4 @@
--- `digits::put_byte` meets its contract. Assumes nothing.
+-- `digits::put_byte` writes the two digits of `byteText`, one after the other.
 use mathlib.Core.Path.{ap, _∙_}
 use Rattle.digits.specs.Text.{put}
 use borrow.Author.Needs.{needs}

@@ -1,4 +1,4 @@
--- `digits::put_decimal` meets its contract. Assumes nothing.
+-- `digits::put_decimal` writes what `decimalText` defines: the digits one after the other, from the largest power of ten.
 use mathlib.Core.Path.{ap, _∙_}
 use Prim.Native.Nat.{ℕ}
 use mathlib.Core.List.{List, [], _∷_}

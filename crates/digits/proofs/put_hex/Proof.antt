@@ -1,4 +1,4 @@
--- `digits::put_hex` meets its contract. Assumes nothing.
+-- `digits::put_hex` writes what `hexText` defines: four bytes, the most significant first.
 use Prim.Native.Nat.{_/_, _%_, _^_}
 use mathlib.Core.Path.{ap, _∙_}
 use Rattle.digits.specs.Text.{byteText, puts}

@@ -1,4 +1,4 @@
--- `digits::put_place` meets its contract. Assumes nothing.
+-- `digits::put_place` writes what `digitText` defines: a digit exactly if the power of ten is at most n.
 use mathlib.Core.Path.{_∙_}
 use borrow.Author.Tests.{le-leb, lt-leb}
 use borrow.Author.Needs.{needs}

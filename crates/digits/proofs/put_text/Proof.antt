@@ -1,4 +1,4 @@
--- `digits::put_text` meets its contract. Assumes nothing.
+-- `digits::put_text` writes the text. At each turn of the loop, writing the rest of the text to the line completes it.
 use Prim.Native.Nat.{ℕ, suc, _≤_, _-_}
 use mathlib.Core.List.{List}
 use mathlib.Core.Path.{_≡_, ap, refl, sym, _∙_}
@@ -41,7 +41,7 @@ loop-again c =
     let here = drop-cons text (l .k) 0 (c .before .before .before .before .before .loop-test .taken) in
     (omega (arith, c .before .before .before .before .before .loop-test .taken), rw (add-one (l .k)) (ap (puts (drop (suc (l .k)) text)) (c .before .before .put .ensures) ∙ sym (ap (λ (t : List ℕ). puts t (lineAt (l .line) (l .next))) here) ∙ l .inv .1))
 
--- behind the loop no text is left
+-- after the loop no text is left
 done : (c : tie.After-loop Inv-loop μ-loop)
     → lineAt (c .before .loop .line) (c .before .loop .next)
     ≡ puts (c .before .before .before .before .args .text .now) (lineAt (c .before .before .before .before .args .line .now) (c .before .before .before .before .args .at))

@@ -1,4 +1,4 @@
--- `mask::masked16` meets its contract: a masked value is at most its mask, so it fits the mask's type. Assumes nothing.
+-- `mask::masked16` returns `bitAnd`: the result is at most the mask, so the cast to the type of the mask keeps it.
 use native.Mathlib.Omega.{arith}
 use borrow.Author.Needs.{needs}
 use lib.Bits.{and-le-r}

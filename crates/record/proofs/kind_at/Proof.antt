@@ -1,4 +1,4 @@
--- `record::kind_at` meets its contract. Assumes nothing.
+-- `record::kind_at` returns the kind of `recordAt`, which is the byte at offset 2.
 use Prim.Native.Nat.{_+_}
 use mathlib.Core.Path.{refl}
 use native.Mathlib.Omega.{arith}

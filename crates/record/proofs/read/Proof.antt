@@ -1,4 +1,4 @@
--- `record::read` meets its contract. Assumes nothing.
+-- `record::read` returns what `recordAt` defines: each field is read at its offset.
 use Prim.Native.Nat.{_+_}
 use native.Mathlib.Omega.{arith}
 use borrow.Author.Needs.{needs}

@@ -1,4 +1,4 @@
--- `record::write` meets its contract. Assumes nothing.
+-- `record::write` stores the 12 bytes of `bytesOf`, one after the other, and leaves the rest unchanged.
 use lib.ListN.{length-set}
 use lib.Seq.{sets-eq}
 use native.Mathlib.Omega.{arith}

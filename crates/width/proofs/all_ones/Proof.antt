@@ -1,4 +1,4 @@
--- `width::all_ones` meets its contract. Assumes nothing.
+-- `width::all_ones` returns what `allOnes` defines: the code tests the widths in the same order.
 use borrow.Author.Tests.{eq-eqb, ne-eqb}
 use Rattle.width.proofs.all_ones.Statement.{statement}
 use Rattle.width.proofs.all_ones.Tie as tie

@@ -1,4 +1,4 @@
--- `width::fits` meets its contract. Assumes nothing.
+-- `width::fits` returns what `fitsWidth` defines, because `all_ones` returns the largest value of the width.
 use borrow.Author.Needs.{needs}
 use Rattle.width.proofs.fits.Statement.{statement}
 use Rattle.width.proofs.fits.Tie as tie

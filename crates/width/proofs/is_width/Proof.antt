@@ -1,4 +1,4 @@
--- `width::is_width` meets its contract. Assumes nothing.
+-- `width::is_width` returns what `isWidth` defines: the code tests the three widths in the same order.
 use borrow.Author.Tests.{eq-eqb, ne-eqb}
 use Rattle.width.proofs.is_width.Statement.{statement}
 use Rattle.width.proofs.is_width.Tie as tie

@@ -1,5 +1,4 @@
--- `acpi::Acpi::access` meets its contract.
--- What calls, casts and indices ask for, `search` finds. Assumes nothing.
+-- `acpi::Acpi::access` returns what `acpiAccess` defines: it tests offset and width, and then read or write.
 use borrow.Author.Needs.{needs}
 use Rattle.acpi.specs.Acpi.{acpiAccess}
 use Rattle.acpi.proofs.Acpi.access.Statement.{statement}

@@ -1,4 +1,4 @@
--- `acpi::Acpi::command_write` meets its contract. Assumes nothing.
+-- `acpi::Acpi::command_write` returns what `commandWrite` defines: 1 and 2 are accepted, other values are ignored.
 use borrow.Author.Needs.{needs}
 use borrow.Author.Tests.{ne-eqb}
 use Rattle.acpi.specs.Registers.{commandWrite}

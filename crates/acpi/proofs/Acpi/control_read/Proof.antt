@@ -1,4 +1,4 @@
--- `acpi::Acpi::control_read` meets its contract. Assumes nothing.
+-- `acpi::Acpi::control_read` returns what `controlRead` defines: the stored bits, and SCI_EN in bit 0.
 use borrow.Author.Needs.{needs}
 use Rattle.acpi.proofs.Acpi.control_read.Statement.{statement}
 use Rattle.acpi.proofs.Acpi.control_read.Tie as tie

@@ -1,4 +1,4 @@
--- `acpi::Acpi::control_write` meets its contract. Assumes nothing.
+-- `acpi::Acpi::control_write` returns what `controlWrite` defines: it stores the masked value, and bit 13 sets sleeping.
 use borrow.Author.Needs.{needs}
 use borrow.Author.Tests.{eq-eqb, ne-eqb}
 use Rattle.acpi.specs.Registers.{controlWrite}

@@ -1,5 +1,4 @@
--- `acpi::Acpi::event` meets its contract: each arm is the definition's at its kind.
--- What calls, casts and indices ask for, `search` finds. Assumes nothing.
+-- `acpi::Acpi::event` returns what `acpiEvent` defines: one arm of the `match` for each kind.
 use borrow.Author.Needs.{needs}
 use borrow.Author.Tests.{ne-eqb}
 use Rattle.acpi.specs.Acpi.{acpiEvent}

@@ -1,5 +1,4 @@
--- `acpi::Acpi::from_bytes` meets its contract: each field is read at its place.
--- What calls, casts and indices ask for, `search` finds. Assumes nothing.
+-- `acpi::Acpi::from_bytes` returns what `acpiFrom` defines: each field is read at its offset.
 use borrow.Author.Needs.{needs}
 use Rattle.acpi.specs.Saved.{acpiFrom}
 use Rattle.acpi.proofs.Acpi.from_bytes.Statement.{statement}

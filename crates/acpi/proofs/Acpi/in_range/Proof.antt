@@ -1,5 +1,4 @@
--- `acpi::Acpi::in_range` meets its contract: its tests are the definition's, in the same order.
--- What calls, casts and indices ask for, `search` finds. Assumes nothing.
+-- `acpi::Acpi::in_range` returns what `acpiInRange` defines: it makes the same tests in the same order.
 use Prim.Native.Nat.{_^_}
 use mathlib.Core.Path.{_≡_}
 use mathlib.Core.Bool.{Bool, _&&_, and-assoc, and-true}

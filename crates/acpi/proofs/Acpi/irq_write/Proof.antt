@@ -1,4 +1,4 @@
--- `acpi::Acpi::irq_write` meets its contract. Assumes nothing.
+-- `acpi::Acpi::irq_write` returns what `irqWrite` defines: 0 to 15 are stored, larger values are ignored.
 use borrow.Author.Needs.{needs}
 use borrow.Author.Tests.{le-leb, lt-leb}
 use Rattle.acpi.specs.Setup.{irqWrite}

@@ -1,5 +1,4 @@
--- `acpi::Acpi::map_write` meets its contract.
--- What calls, casts and indices ask for, `search` finds. Assumes nothing.
+-- `acpi::Acpi::map_write` returns what `mapWrite` defines: a legal map value is at most 1FFFh, so the cast to 16 bits keeps it.
 use mathlib.Core.Path.{sym, _∙_}
 use native.Mathlib.Omega.{arith}
 use borrow.Author.Needs.{needs}

@@ -1,4 +1,4 @@
--- `acpi::Acpi::pending` meets its contract: it is the definition. Assumes nothing.
+-- `acpi::Acpi::pending` returns what `pending` defines: it makes the same tests.
 use mathlib.Core.Path.{refl}
 use Rattle.acpi.specs.Settle.{pending}
 use Rattle.acpi.proofs.Acpi.pending.Statement.{statement}

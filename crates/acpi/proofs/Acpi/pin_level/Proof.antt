@@ -1,5 +1,4 @@
--- `acpi::Acpi::pin_level` meets its contract.
--- What calls, casts and indices ask for, `search` finds. Assumes nothing.
+-- `acpi::Acpi::pin_level` returns what `pinLevel` defines: it stores the level, and then tests the direction.
 use borrow.Author.Needs.{needs}
 use Rattle.acpi.specs.Event.{pinLevel}
 use Rattle.acpi.proofs.Acpi.pin_level.Statement.{statement}

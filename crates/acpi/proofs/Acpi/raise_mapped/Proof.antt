@@ -1,4 +1,4 @@
--- `acpi::Acpi::raise_mapped` meets its contract. Assumes nothing.
+-- `acpi::Acpi::raise_mapped` returns what `raiseMapped` defines: one arm of the `match` for each range of the low byte.
 use mathlib.Core.Logic.{inl, inr}
 use borrow.Author.Needs.{needs}
 use borrow.Author.Tests.{ne-eqb}

@@ -1,5 +1,4 @@
--- `acpi::Acpi::register_read` meets its contract.
--- What calls, casts and indices ask for, `search` finds. Assumes nothing.
+-- `acpi::Acpi::register_read` returns what `registerRead` defines: one arm of the `match` for each offset that is special.
 use borrow.Author.Needs.{needs}
 use borrow.Author.Tests.{ne-eqb}
 use Rattle.acpi.specs.Registers.{registerRead}

@@ -1,4 +1,4 @@
--- `acpi::Acpi::reset` meets its contract. Assumes nothing.
+-- `acpi::Acpi::reset` returns what `acpiReset` defines: one arm of the `match` for each reset.
 use borrow.Author.Needs.{needs}
 use borrow.Author.Tests.{ne-eqb}
 use Rattle.acpi.specs.Acpi.{acpiReset}

@@ -1,4 +1,4 @@
--- `acpi::Acpi::sci` meets its contract. Assumes nothing.
+-- `acpi::Acpi::sci` returns what `sciOn` defines: pending, with SCI_EN.
 use borrow.Author.Needs.{needs}
 use Rattle.acpi.specs.Settle.{sciOn}
 use Rattle.acpi.proofs.Acpi.sci.Statement.{statement}

@@ -1,4 +1,4 @@
--- `acpi::Acpi::settle` meets its contract: it goes in the definition's order. Assumes nothing.
+-- `acpi::Acpi::settle` returns what `acpiSettle` defines: it wakes up first, and then sets the CPU state.
 use borrow.Author.Needs.{needs}
 use Rattle.acpi.specs.Acpi.{acpiSettle}
 use Rattle.acpi.proofs.Acpi.settle.Statement.{statement}

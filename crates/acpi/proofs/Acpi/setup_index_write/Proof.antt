@@ -1,4 +1,5 @@
--- `acpi::Acpi::setup_index_write` meets its contract. Assumes nothing.
+-- `acpi::Acpi::setup_index_write` returns what `setupIndexWrite` defines: a legal index is at most 41h, so the cast to 16 bits
+-- keeps it.
 use mathlib.Core.Path.{sym, _∙_}
 use native.Mathlib.Omega.{arith}
 use borrow.Author.Needs.{needs}

@@ -1,5 +1,4 @@
--- `acpi::Acpi::setup_write` meets its contract.
--- What calls, casts and indices ask for, `search` finds. Assumes nothing.
+-- `acpi::Acpi::setup_write` returns what `setupWrite` defines: one arm of the `match` for each range of SETUP_IDX.
 use mathlib.Core.Logic.{inl, inr, ⊎-elim}
 use borrow.Author.Needs.{needs}
 use borrow.Author.Tests.{ne-eqb}

@@ -1,4 +1,4 @@
--- `acpi::Acpi::smi` meets its contract. Assumes nothing.
+-- `acpi::Acpi::smi` returns what `smiOn` defines: pending, without SCI_EN.
 use borrow.Author.Needs.{needs}
 use Rattle.acpi.specs.Settle.{smiOn}
 use Rattle.acpi.proofs.Acpi.smi.Statement.{statement}

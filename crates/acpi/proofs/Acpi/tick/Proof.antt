@@ -1,4 +1,4 @@
--- `acpi::Acpi::tick` meets its contract: a sum that wraps at 32 bits has the remainder of the whole sum. Assumes nothing.
+-- `acpi::Acpi::tick` returns what `ticked` defines: the sum may wrap at 32 bits, but its remainder by 2^24 is the same.
 use borrow.Author.Needs.{needs}
 use borrow.Author.Tests.{le-ltb, lt-ltb}
 use Rattle.acpi.proofs.Legal.{remainder}

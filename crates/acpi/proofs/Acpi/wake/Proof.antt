@@ -1,4 +1,4 @@
--- `acpi::Acpi::wake` meets its contract. Assumes nothing.
+-- `acpi::Acpi::wake` returns what `wake` defines: a sleeping chip with a pending status bit wakes up.
 use borrow.Author.Needs.{needs}
 use Rattle.acpi.specs.Settle.{wake}
 use Rattle.acpi.proofs.Acpi.wake.Statement.{statement}

@@ -1,5 +1,4 @@
--- `acpi::bytes::maps_from` meets its contract: each map is read at its place.
--- What calls, casts and indices ask for, `search` finds. Assumes nothing.
+-- `acpi::bytes::maps_from` returns what `mapsFrom` defines: each map is read at its offset.
 use borrow.Author.Needs.{needs}
 use Rattle.acpi.proofs.bytes.maps_from.Statement.{statement}
 use Rattle.acpi.proofs.bytes.maps_from.Tie as tie

@@ -1,4 +1,4 @@
--- `acpi::map::gpe_bit` meets its contract: a bit below 16 fits the register. Assumes nothing.
+-- `acpi::map::gpe_bit` returns a power of two: the shift is less than 16, so no bit is lost.
 use native.Mathlib.Omega.{arith}
 use borrow.Author.Needs.{needs}
 use Rattle.acpi.proofs.Legal.{one-bit}

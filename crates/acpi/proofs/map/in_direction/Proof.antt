@@ -1,4 +1,4 @@
--- `acpi::map::in_direction` meets its contract. Assumes nothing.
+-- `acpi::map::in_direction` returns what `inDirection` defines: it tests bit 8, and then the two levels.
 use borrow.Author.Tests.{eq-eqb, ne-eqb}
 use Rattle.acpi.proofs.map.in_direction.Statement.{statement}
 use Rattle.acpi.proofs.map.in_direction.Tie as tie

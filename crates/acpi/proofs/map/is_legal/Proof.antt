@@ -1,4 +1,4 @@
--- `acpi::map::is_legal` meets its contract. Assumes nothing.
+-- `acpi::map::is_legal` returns what `legalMap` defines: it makes the same tests.
 use borrow.Author.Needs.{needs}
 use Rattle.acpi.specs.Map.{legalMap}
 use Rattle.acpi.proofs.map.is_legal.Statement.{statement}

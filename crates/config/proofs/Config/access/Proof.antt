@@ -1,4 +1,4 @@
--- `config::Config::access` meets its contract. Assumes nothing.
+-- `config::Config::access` returns what `configAccess` defines: it tests the width, then the port, then read or write.
 use borrow.Author.Needs.{needs}
 use borrow.Author.Tests.{ne-eqb, not-false, not-true}
 use Rattle.config.specs.Config.{configAccess}

@@ -1,4 +1,4 @@
--- `config::Config::control_write` meets its contract. Assumes nothing.
+-- `config::Config::control_write` returns what `controlWrite` defines: blocked while the lock bit is set, otherwise masked.
 use borrow.Author.Needs.{needs}
 use Rattle.config.specs.Config.{controlWrite}
 use Rattle.config.proofs.Config.control_write.Statement.{statement}

@@ -1,4 +1,4 @@
--- `config::Config::data_write` meets its contract. Assumes nothing.
+-- `config::Config::data_write` returns what `dataWrite` defines: it tests the lock, then index 07h, then the device number.
 use borrow.Author.Needs.{needs}
 use borrow.Author.Tests.{eq-eqb, ne-eqb}
 use Rattle.config.specs.Config.{dataWrite}

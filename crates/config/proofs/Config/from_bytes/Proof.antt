@@ -1,4 +1,4 @@
--- `config::Config::from_bytes` meets its contract: each base is read from its two bytes. Assumes nothing.
+-- `config::Config::from_bytes` returns what `configFrom` defines: each base is made from its two bytes.
 use borrow.Author.Needs.{needs}
 use Rattle.config.specs.Saved.{configFrom}
 use Rattle.config.proofs.Config.from_bytes.Statement.{statement}

@@ -1,4 +1,4 @@
--- `config::Config::in_range` meets its contract. Assumes nothing.
+-- `config::Config::in_range` returns what `configInRange` defines: it tests activate and then key control.
 use borrow.Author.Needs.{needs}
 use Rattle.config.specs.Config.{configInRange}
 use Rattle.config.proofs.Config.in_range.Statement.{statement}

@@ -1,4 +1,4 @@
--- `config::Config::index_read` meets its contract. Assumes nothing.
+-- `config::Config::index_read` returns what `indexRead` defines: the index if unlocked, otherwise status 1.
 use borrow.Author.Needs.{needs}
 use Rattle.config.specs.Config.{indexRead}
 use Rattle.config.proofs.Config.index_read.Statement.{statement}

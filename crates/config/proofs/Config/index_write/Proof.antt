@@ -1,4 +1,4 @@
--- `config::Config::index_write` meets its contract. Assumes nothing.
+-- `config::Config::index_write` returns what `indexWrite` defines: it tests the lock, and then the value.
 use borrow.Author.Needs.{needs}
 use borrow.Author.Tests.{eq-eqb, ne-eqb}
 use Rattle.config.specs.Config.{indexWrite}

@@ -1,4 +1,4 @@
--- `config::Config::register_read` meets its contract: one arm for each register. Assumes nothing.
+-- `config::Config::register_read` returns what `registerRead` defines: one arm of the `match` for each register.
 use borrow.Author.Needs.{needs}
 use borrow.Author.Tests.{ne-eqb}
 use Rattle.config.specs.Config.{registerRead}

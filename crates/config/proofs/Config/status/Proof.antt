@@ -1,4 +1,4 @@
--- `config::Config::status` meets its contract. Assumes nothing.
+-- `config::Config::status` returns what `status` of access/specs/Block.antt defines.
 use borrow.Author.Needs.{needs}
 use Rattle.config.proofs.Config.status.Statement.{statement}
 use Rattle.config.proofs.Config.status.Tie as tie

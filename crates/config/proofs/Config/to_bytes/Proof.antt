@@ -1,4 +1,4 @@
--- `config::Config::to_bytes` meets its contract. Assumes nothing.
+-- `config::Config::to_bytes` returns what `configBytes` defines: the same nine bytes in the same order.
 use borrow.Author.Needs.{needs}
 use Rattle.config.proofs.Config.to_bytes.Statement.{statement}
 use Rattle.config.proofs.Config.to_bytes.Tie as tie

@@ -1,4 +1,4 @@
--- `key::Key::access` meets its contract. Assumes nothing.
+-- `key::Key::access` returns what `keyAccess` defines: it tests the width, and then read or write.
 use borrow.Author.Needs.{needs}
 use borrow.Author.Tests.{not-false, not-true}
 use Rattle.key.specs.Key.{keyAccess}

@@ -1,4 +1,4 @@
--- `key::Key::from_bytes` meets its contract: the loop has copied the first `k` bytes. Assumes nothing.
+-- `key::Key::from_bytes` returns the 32 bytes: at turn k of the loop the first k of them are copied.
 use Prim.Native.Nat.{_≤_, _-_}
 use mathlib.Core.Path.{_≡_, ap, refl}
 use lib.ListN.{length, length-set, take}

@@ -1,4 +1,4 @@
--- `key::Key::read` meets its contract: blocked under read-lock, else the byte. Assumes nothing.
+-- `key::Key::read` returns what `keyRead` defines: status 2 under read-lock, otherwise the byte.
 use borrow.Author.Needs.{needs}
 use Rattle.key.specs.Key.{keyRead}
 use Rattle.key.proofs.Key.read.Statement.{statement}

@@ -1,4 +1,4 @@
--- `key::Key::reset` meets its contract. Assumes nothing.
+-- `key::Key::reset` returns what `keyReset` defines: only reset 3 clears the bytes.
 use borrow.Author.Needs.{needs}
 use borrow.Author.Tests.{lt-ltb, le-ltb}
 use Rattle.key.proofs.Key.reset.Statement.{statement}

@@ -1,4 +1,4 @@
--- `key::Key::status` meets its contract. Assumes nothing.
+-- `key::Key::status` returns what `status` of access/specs/Block.antt defines.
 use borrow.Author.Needs.{needs}
 use Rattle.key.proofs.Key.status.Statement.{statement}
 use Rattle.key.proofs.Key.status.Tie as tie

@@ -1,4 +1,4 @@
--- `key::Key::to_bytes` meets its contract: an array of 32 bytes is its own slice of 32. Assumes nothing.
+-- `key::Key::to_bytes` returns what `keyBytes` defines: the slice of all 32 bytes is the array itself.
 use mathlib.Core.Path.{_≡_, sym}
 use lib.ListN.{length, length-map}
 use Rattle.lists.proofs.Slice.{slice-whole}

@@ -1,4 +1,4 @@
--- `key::Key::write` meets its contract: blocked under write-lock, else the byte is stored. Assumes nothing.
+-- `key::Key::write` returns what `keyWrite` defines: status 2 under write-lock, otherwise the byte is stored.
 use borrow.Author.Needs.{needs}
 use Rattle.key.specs.Key.{keyWrite}
 use Rattle.key.proofs.Key.write.Statement.{statement}

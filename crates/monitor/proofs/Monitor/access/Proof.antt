@@ -1,4 +1,4 @@
--- `monitor::Monitor::access` meets its contract. Assumes nothing.
+-- `monitor::Monitor::access` returns what `monitorAccess` defines: it tests the width, and then the port.
 use borrow.Author.Needs.{needs}
 use borrow.Author.Tests.{ne-eqb, not-true, not-false}
 use Rattle.monitor.specs.Monitor.{monitorAccess}

@@ -1,4 +1,4 @@
--- `monitor::Monitor::data_access` meets its contract. Assumes nothing.
+-- `monitor::Monitor::data_access` returns what `dataAccess` defines: a write or a read of the register at the index.
 use borrow.Author.Needs.{needs}
 use Rattle.monitor.proofs.Monitor.data_access.Statement.{statement}
 use Rattle.monitor.proofs.Monitor.data_access.Tie as tie

@@ -1,4 +1,4 @@
--- `monitor::Monitor::data_read` meets its contract. Assumes nothing.
+-- `monitor::Monitor::data_read` returns what `dataRead` defines: one arm of the `match` for each kind that reads differently.
 use borrow.Author.Needs.{needs}
 use borrow.Author.Tests.{ne-eqb}
 use native.Mathlib.Omega.{arith}

@@ -1,4 +1,4 @@
--- `monitor::Monitor::data_write` meets its contract. Assumes nothing.
+-- `monitor::Monitor::data_write` returns what `dataWrite` defines: one arm of the `match` for each kind.
 use borrow.Author.Needs.{needs}
 use borrow.Author.Tests.{ne-eqb}
 use native.Mathlib.Omega.{arith}

@@ -1,4 +1,4 @@
--- `monitor::Monitor::event` meets its contract. Assumes nothing.
+-- `monitor::Monitor::event` returns what `monitorEvent` defines: only a sensor event changes the monitor.
 use borrow.Author.Needs.{needs}
 use borrow.Author.Tests.{eq-eqb, ne-eqb}
 use Rattle.monitor.proofs.Monitor.event.Statement.{statement}

@@ -1,4 +1,5 @@
--- `monitor::Monitor::in_range` meets its contract: the first k registers are within their masks. Assumes nothing.
+-- `monitor::Monitor::in_range` returns what `monitorInRange` defines: at turn k of the loop the first k registers are within
+-- their masks.
 use Prim.Native.Nat.{ℕ, _-_, _≤_}
 use mathlib.Core.Path.{_≡_, refl, sym, ap, _∙_}
 use mathlib.Core.Bool.{Bool, true}

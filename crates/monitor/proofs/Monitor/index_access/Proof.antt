@@ -1,4 +1,4 @@
--- `monitor::Monitor::index_access` meets its contract. Assumes nothing.
+-- `monitor::Monitor::index_access` returns what `indexAccess` defines: it stores or returns the index.
 use borrow.Author.Needs.{needs}
 use Rattle.monitor.proofs.Monitor.index_access.Statement.{statement}
 use Rattle.monitor.proofs.Monitor.index_access.Tie as tie

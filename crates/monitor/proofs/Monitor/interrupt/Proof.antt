@@ -1,4 +1,4 @@
--- `monitor::Monitor::interrupt` meets its contract: the tests are those of `interrupt`. Assumes nothing.
+-- `monitor::Monitor::interrupt` returns what `interrupt` defines: it makes the same tests.
 use mathlib.Core.Path.{refl}
 use borrow.Author.Needs.{needs}
 use Rattle.monitor.proofs.Monitor.interrupt.Statement.{statement}

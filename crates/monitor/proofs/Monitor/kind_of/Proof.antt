@@ -1,4 +1,4 @@
--- `monitor::Monitor::kind_of` meets its contract: the constant table is document 01's column. Assumes nothing.
+-- `monitor::Monitor::kind_of` returns what `kindOf` defines: the constant array has the kinds of the table.
 use borrow.Author.Needs.{needs}
 use native.Mathlib.Omega.{arith}
 use Rattle.monitor.proofs.Table.{entry}

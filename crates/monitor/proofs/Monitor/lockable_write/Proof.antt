@@ -1,4 +1,4 @@
--- `monitor::Monitor::lockable_write` meets its contract. Assumes nothing.
+-- `monitor::Monitor::lockable_write` returns what `lockableWrite` defines: status 2 while Lock is set, otherwise a store.
 use borrow.Author.Needs.{needs}
 use Rattle.monitor.specs.Monitor.{lockableWrite}
 use Rattle.monitor.proofs.Monitor.lockable_write.Statement.{statement}

@@ -1,4 +1,4 @@
--- `monitor::Monitor::mask_of` meets its contract: the constant table is document 01's column. Assumes nothing.
+-- `monitor::Monitor::mask_of` returns what `maskOf` defines: the constant array has the masks of the table.
 use borrow.Author.Needs.{needs}
 use native.Mathlib.Omega.{arith}
 use Rattle.monitor.proofs.Table.{entry}

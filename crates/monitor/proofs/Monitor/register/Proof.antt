@@ -1,4 +1,4 @@
--- `monitor::Monitor::register` meets its contract. Assumes nothing.
+-- `monitor::Monitor::register` returns what `register` defines, because `slot_of` returns the place of the register.
 use borrow.Author.Needs.{needs}
 use Rattle.monitor.proofs.Monitor.register.Statement.{statement}
 use Rattle.monitor.proofs.Monitor.register.Tie as tie

@@ -1,4 +1,4 @@
--- `monitor::Monitor::reset` meets its contract. Assumes nothing.
+-- `monitor::Monitor::reset` returns what `monitorReset` defines: reset 0 keeps the monitor.
 use borrow.Author.Needs.{needs}
 use borrow.Author.Tests.{ne-eqb}
 use Rattle.monitor.proofs.Monitor.reset.Statement.{statement}

@@ -1,4 +1,4 @@
--- `monitor::Monitor::reset_of` meets its contract: the constant table is document 01's column. Assumes nothing.
+-- `monitor::Monitor::reset_of` returns what `resetOf` defines: the constant array has the reset values of the table.
 use borrow.Author.Needs.{needs}
 use native.Mathlib.Omega.{arith}
 use Rattle.monitor.proofs.Table.{entry}

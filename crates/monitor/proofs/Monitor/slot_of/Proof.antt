@@ -1,4 +1,4 @@
--- `monitor::Monitor::slot_of` meets its contract. Assumes nothing.
+-- `monitor::Monitor::slot_of` returns what `slotOf` defines: one arm of the `match` for each stored register.
 use borrow.Author.Tests.{ne-eqb}
 use Rattle.monitor.proofs.Monitor.slot_of.Statement.{statement}
 use Rattle.monitor.proofs.Monitor.slot_of.Tie as tie

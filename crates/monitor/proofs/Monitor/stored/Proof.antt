@@ -1,4 +1,4 @@
--- `monitor::Monitor::stored` meets its contract. Assumes nothing.
+-- `monitor::Monitor::stored` returns what `stored` defines, because `slot_of` returns the place of the register.
 use borrow.Author.Needs.{needs}
 use Rattle.monitor.proofs.Monitor.stored.Statement.{statement}
 use Rattle.monitor.proofs.Monitor.stored.Tie as tie

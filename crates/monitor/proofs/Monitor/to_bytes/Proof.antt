@@ -1,4 +1,4 @@
--- `monitor::Monitor::to_bytes` meets its contract: each byte is its register's. Assumes nothing.
+-- `monitor::Monitor::to_bytes` returns what `monitorBytes` defines: each byte is the value of its register.
 use mathlib.Core.Path.{refl}
 use borrow.Author.Needs.{needs}
 use Rattle.monitor.proofs.Monitor.to_bytes.Statement.{statement}
