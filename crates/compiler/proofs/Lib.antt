@@ -1,5 +1,6 @@
 pub mod Ahead
 pub mod Places
+pub mod Refused
 pub mod Targets
 pub mod Filling
 pub mod Image

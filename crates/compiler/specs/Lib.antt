@@ -1,3 +1,4 @@
 pub mod Compile
 pub mod Emit
+pub mod Refused
 pub mod Words

@@ -3,7 +3,9 @@
 use mathlib.Core.Path.{refl, ap, _∙_}
 use lib.ListN.{length}
 use Rattle.compiler.proofs.Compiling.{accepts-all, refuses-not}
-use Rattle.script.proofs.Flat.{accepted-by, accepts, reading-flat}
+use Rattle.compiler.proofs.Refused.{refused-exactly}
+use Rattle.script.proofs.Flat.{accepts, reading-flat}
+use Rattle.script.proofs.Grammar.{legal-accepted, legal-script}
 use Rattle.script.specs.Nested.{scriptBody}
 use Rattle.script.specs.Records.{recordsOf}
 use Rattle.semantics.proofs.Events.{one-event-each}
@@ -36,8 +38,11 @@ compiler-correct = record {
   acceptedExactly = λ script buffer. (
     λ h.
         let r = refuses-not script buffer h in
-        let a = accepts script (r .0) in
-        (a .length-good, a .faultless, a .few-words, r .1),
-    λ h. accepts-all script buffer (accepted-by script (h .0) (h .1) (h .2)) (h .3),
+        let g = legal-script script (r .0) in
+        record { legal = g; room = rw (legal-accepted script g .words) at (r .1) },
+    λ a.
+        let l = legal-accepted script (a .legal) in
+        accepts-all script buffer (l .accepted) (rw (l .words) (a .room)),
   );
+  refusedExactly = λ script buffer place. refused-exactly script buffer place;
 }

@@ -4,16 +4,17 @@
 use Prim.Native.Nat.{ℕ, _*_, _-_, _≤_, _<_}
 use mathlib.Core.Path.{_≡_}
 use mathlib.Core.Logic.{_↔_}
-use mathlib.Core.Bool.{true, false}
+use mathlib.Core.Bool.{true}
 use mathlib.Core.List.{List, []}
 use lib.ListN.{drop, getD, length, take}
 use Rattle.compiler.specs.Compile.{compileResult, imageAfter}
+use Rattle.compiler.specs.Refused.{Accepts, RefusedExactly}
 use Rattle.device.specs.Device.{deviceInRange}
 use Rattle.device.specs.declared.Device.{Device}
-use Rattle.record.specs.Record.{mostRecords, recordSize}
+use Rattle.record.specs.Record.{recordSize}
 use Rattle.script.specs.Nested.{flat, scriptBody}
 use Rattle.script.specs.Records.{recordsOf}
-use Rattle.script.specs.Refusals.{badLength, firstFault, scriptRefusal, wordsIn}
+use Rattle.script.specs.Refusals.{scriptRefusal}
 use Rattle.semantics.specs.OwnRun.{Run, scriptRun}
 use Rattle.sequencer.specs.Run.{RunEnd, eventsRefusal, imageRun, logAfter, runAnswer}
 use Rattle.step.specs.Sequencer.{freshSequencer}
@@ -54,11 +55,8 @@ pub record CompilerCorrect : Type 0 where
   -- the nested form of an accepted script has all its records, in order
   pub sameRecords :
       (script : List ℕ) → scriptRefusal script .number ≡ 0 → recordsOf script ≡ flat (scriptBody script) []
-  -- the compiler accepts a script exactly when refusals 1, 2 to 7 and 8 do not apply and the buffer is long enough for its words
+  -- the compiler accepts exactly the legal scripts whose words fit into the buffer
   pub acceptedExactly :
-      (script buffer : List ℕ)
-      → (compileResult script buffer .refusal ≡ 0)
-      ↔ ((badLength script ≡ false)
-      × (firstFault [] 0 (recordsOf script) .number ≡ 0)
-      × (wordsIn script ≤ mostRecords)
-      × (recordSize * wordsIn script ≤ length buffer))
+      (script buffer : List ℕ) → (compileResult script buffer .refusal ≡ 0) ↔ Accepts script buffer
+  -- and gives each refusal exactly when it applies
+  pub refusedExactly : (script buffer : List ℕ) (place : ℕ) → RefusedExactly script buffer place

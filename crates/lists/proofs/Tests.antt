@@ -13,7 +13,7 @@ pub record FirstAt (bs : List Bool) (k : ℕ) : Type 0 where
   pub holds : holdsAt bs (suc k) ≡ true
   pub none-before : (j : ℕ) → j < k → holdsAt bs (suc j) ≡ false
 
-first-from : (bs : List Bool) (at k : ℕ) → 0 < at → firstFrom at bs ≡ at + k → FirstAt bs k
+pub first-from : (bs : List Bool) (at k : ℕ) → 0 < at → firstFrom at bs ≡ at + k → FirstAt bs k
 first-from [] at k p e = absurd (omega (arith, e))
 first-from (true ∷ bs) at k p e =
     let z : k ≡ 0 = omega (arith, e) in

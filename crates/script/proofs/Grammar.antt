@@ -2,21 +2,24 @@
 -- the records of a legal body. Both by induction on the body.
 use Prim.Native.Nat.{ℕ, zero, suc, _+_, _*_, _^_, _%_, _/_, _≤_, _<_}
 use mathlib.Core.Path.{_≡_, refl, sym, ap, _∙_}
-use mathlib.Core.Bool.{Bool, true, false, cond, true≢false, _&&_, _||_}
+use mathlib.Core.Bool.{Bool, true, false, cond, not, true≢false, _&&_, _||_}
 use mathlib.Core.List.{List, [], _∷_}
 use mathlib.Core.Logic.{_⊎_, inl, inr}
-use borrow.Author.Tests.{eqb-true, eqb-false, leb-true, leb-false, le-leb, lt-leb, ne-eqb, eq-eqb}
+use borrow.Author.Tests.{eqb-true, eqb-false, leb-true, leb-false, le-leb, le-ltb, lt-leb, not-false}
 use lib.Dec.{eqb, leb}
 use lib.ListN.{length}
 use native.Mathlib.Omega.{arith}
 use Rattle.mask.proofs.Every.{both, neither}
 use Rattle.record.specs.declared.Record.{Record}
 use Rattle.outcome.specs.Refusal.{refusal}
+use Rattle.outcome.specs.declared.Refusal.{Refusal}
 use Rattle.width.specs.Width.{fitsWidth, isWidth}
-use Rattle.script.specs.Grammar.{Legal, Width, wordsFor}
-use Rattle.script.specs.Nested.{Body, done, write, read, delay, repeat, if, ifElse, scriptRecord, elseRecord, endRecord, flat}
-use Rattle.script.specs.Refusals.{firstFault, openAfter, recordFault, repeatsIn, wordCount}
-use Rattle.script.proofs.Flat.{count-fields, passed, stops}
+use Rattle.script.specs.Grammar.{Legal, LegalScript, Width, wordsFor}
+use Rattle.script.specs.Nested.{Body, done, write, read, delay, repeat, if, ifElse, scriptRecord, elseRecord, endRecord, flat, bodyIn, readingOf}
+use Rattle.script.specs.Records.{recordCount, recordsFrom, recordsOf}
+use Rattle.script.specs.Refusals.{badLength, firstFault, openAfter, recordFault, repeatsIn, scriptRefusal, wordCount, wordsIn}
+use Rattle.script.proofs.Flat.{accepted-by, accepts, count-fields, passed, reading-flat, stops}
+use Rattle.script.proofs.Records.{few-records}
 
 -- ---- widths and values
 width-of : (w : ℕ) → isWidth w ≡ true → Width w
@@ -207,3 +210,53 @@ words-flat (ifElse p w m b c rest) blocks tl =
     let j = words-flat c (6 ∷ blocks) (endRecord ∷ flat rest tl) in
     let k = words-flat rest blocks tl in
     omega (arith, i, j, k)
+
+-- ---- scripts
+from-length : (n place : ℕ) (bytes : List ℕ) → length (recordsFrom n place bytes) ≡ n
+from-length zero place bytes = refl
+from-length (suc n) place bytes = ap (λ (k : ℕ). suc k) (from-length n (suc place) bytes)
+
+pub records-length : (bytes : List ℕ) → length (recordsOf bytes) ≡ recordCount bytes
+unfolding recordsOf
+records-length bytes = from-length (recordCount bytes) 0 bytes
+
+-- a script that none of refusals 1 to 8 applies to is legal
+pub legal-script : (script : List ℕ) → scriptRefusal script .number ≡ 0 → LegalScript script
+legal-script script h =
+    let a = accepts script h in
+    let b = bodyIn (readingOf (recordsOf script)) in
+    let e : recordsOf script ≡ flat b [] = reading-flat (recordsOf script) (a .faultless) in
+    let clear : firstFault [] 0 (flat b []) .number ≡ 0 = sym (ap (λ (rs : List Record). firstFault [] 0 rs .number) e) ∙ a .faultless in
+    let words : wordsIn script ≡ wordsFor b + 1 = ap (λ (rs : List Record). wordCount [] rs) e ∙ words-flat b [] [] in
+    let few = a .few-words in
+    let size : length (flat b []) ≡ recordCount script = sym (ap (λ (rs : List Record). length rs) e) ∙ records-length script in
+    let most = few-records script (a .length-good) in
+    let whole = eqb-true (length script % 12) 0 (not-false (eqb (length script % 12) 0) (neither (not (eqb (length script % 12) 0)) _ (a .length-good) .0)) in
+    record {
+      body = b;
+      records = e;
+      wholeRecords = omega (arith, size, whole);
+      fewRecords = omega (arith, size, most);
+      legal = legal-of b [] 0 [] clear .0;
+      fewWords = omega (arith, words, few);
+    }
+
+-- and none of them applies to a legal script
+pub record LegalIsAccepted (script : List ℕ) (g : LegalScript script) : Type 0 where
+  pub accepted : scriptRefusal script .number ≡ 0
+  pub words : wordsIn script ≡ 1 + wordsFor (g .body)
+
+pub legal-accepted : (script : List ℕ) (g : LegalScript script) → LegalIsAccepted script g
+legal-accepted script g =
+    let b = g .body in
+    let size : recordCount script ≡ length (flat b []) = sym (records-length script) ∙ ap (λ (rs : List Record). length rs) (g .records) in
+    let whole = g .wholeRecords in
+    let most = g .fewRecords in
+    let clear : firstFault [] 0 (recordsOf script) .number ≡ 0 =
+    ap (λ (rs : List Record). firstFault [] 0 rs .number) (g .records) ∙ ap (λ (f : Refusal). f .number) (faultless b [] 0 [] (g .legal)) in
+    let words : wordsIn script ≡ wordsFor b + 1 = ap (λ (rs : List Record). wordCount [] rs) (g .records) ∙ words-flat b [] [] in
+    let few = g .fewWords in
+    let z : length script % 12 ≡ 0 = omega (arith, whole) in
+    let n : recordCount script ≤ 1024 = omega (arith, size, most) in
+    let l : badLength script ≡ false = rw (z, le-ltb 1024 (recordCount script) n) in
+    record { accepted = accepted-by script l clear (omega (arith, words, few)); words = omega (arith, words) }

@@ -1,3 +1,4 @@
+pub mod Faults
 pub mod Flat
 pub mod Grammar
 pub mod Loops
