@@ -2,7 +2,7 @@
 -- blocks, each applied to the part of its block.
 use Prim.Native.Nat.{ℕ, _+_, _<_}
 use mathlib.Core.Path.{_≡_, refl, ap, sym, _∙_}
-use mathlib.Core.Bool.{Bool, true}
+use mathlib.Core.Bool.{Bool, true, false}
 use mathlib.Core.List.{List, [], _∷_, _++_}
 use lib.ListN.{drop, getD, length, length-append, length-drop}
 use native.Mathlib.Omega.{arith}
@@ -11,6 +11,8 @@ use Rattle.acpi.proofs.Saved as of-acpi
 use Rattle.acpi.specs.Saved.{acpiBytes, acpiFrom, acpiSaved, acpiSize}
 use Rattle.config.proofs.Saved as of-config
 use Rattle.config.specs.Saved.{configBytes, configFrom, configSaved, configSize}
+use Rattle.acpi.specs.Acpi.{acpiInRange}
+use Rattle.device.specs.Device.{deviceInRange}
 use Rattle.device.specs.declared.Device.{Device}
 use Rattle.key.proofs.Saved as of-key
 use Rattle.key.specs.Saved.{keyBytes, keyFrom, keySize}
@@ -25,8 +27,8 @@ use Rattle.state.specs.State.{
   savedTests,
   keyStart,
   loaded,
-  loadedFrom,
   monitorStart,
+  noDevice,
   part,
   stateBytes,
   stateSize,
@@ -109,12 +111,16 @@ module _ (d : Device) where
       )
 
   -- the same for `load`, which also checks the length
-  pub load-back : Typed d → loaded (stateBytes d) ≡ record { valid = true; device = d }
-  unfolding loaded loadedFrom
+  pub load-back : Typed d → loaded (stateBytes d) ≡ record { refusal = 0; place = 0; device = d }
+  unfolding loaded
   load-back t =
-      rw (eq-eqb (length (stateBytes d)) stateSize state-length)
-      (ap {B = LoadResult} (λ (b : Bool). record { valid = b; device = deviceFrom (stateBytes d) }) state-saved
-      ∙ ap {B = LoadResult} (λ (e : Device). record { valid = true; device = e }) (device-back t))
+      rw (eq-eqb (length (stateBytes d)) stateSize state-length, state-saved)
+      (ap {B = LoadResult} (λ (e : Device). record { refusal = 0; place = 0; device = e }) (device-back t))
+
+-- a caller who overlooks that nothing was loaded is refused by the next call
+pub no-device-refused : deviceInRange noDevice ≡ false
+unfolding deviceInRange acpiInRange
+no-device-refused = refl
 
 -- ---- loaded, then saved
 four-equal : {a b c d a′ b′ c′ d′ : List ℕ} → a ≡ a′ → b ≡ b′ → c ≡ c′ → d ≡ d′

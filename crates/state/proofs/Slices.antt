@@ -1,7 +1,8 @@
 -- `save` and `load` on slices of any length: a slice of `stateSize` bytes is written or read as a whole. Any other slice is
--- unchanged by `save` and not valid for `load`.
+-- unchanged by `save` and refused by `load`.
 use Prim.Native.Nat.{ℕ, _+_, _≤_}
 use mathlib.Core.Path.{_≡_, sym, _∙_}
+use mathlib.Core.Bool.{true, false}
 use mathlib.Core.List.{List, [], append-nil}
 use lib.ListN.{drop, drop-of-length-le, length}
 use lib.Seq.{paste, take-length}
@@ -9,7 +10,7 @@ use borrow.Author.Tests.{eq-eqb, ne-eqb}
 use native.Mathlib.Omega.{arith}
 use Rattle.device.specs.declared.Device.{Device}
 use Rattle.state.proofs.RoundTrip.{state-length}
-use Rattle.state.specs.State.{loaded, loadedFrom, refused, saved, stateBytes, stateSize}
+use Rattle.state.specs.State.{deviceFrom, isSaved, loaded, notLoaded, saved, stateBytes, stateSize}
 use Rattle.state.specs.declared.LoadResult.{LoadResult}
 
 -- pasting a list of the same length at index 0 replaces the whole list
@@ -30,10 +31,15 @@ pub saved-not : (d : Device) (lent : List ℕ) → (length lent ≡ stateSize �
 unfolding saved
 saved-not d lent n = rw (ne-eqb (length lent) stateSize n)
 
-pub loaded-whole : (bytes : List ℕ) (r : LoadResult) → length bytes ≡ stateSize → r ≡ loadedFrom bytes → r ≡ loaded bytes
+pub loaded-whole : (bytes : List ℕ) (d : Device) → length bytes ≡ stateSize → isSaved bytes ≡ true → d ≡ deviceFrom bytes
+    → _≡_ {A = LoadResult} (record { refusal = 0; place = 0; device = d }) (loaded bytes)
 unfolding loaded
-loaded-whole bytes r n l = rw (eq-eqb (length bytes) stateSize n) l
+loaded-whole bytes d n s e = rw (eq-eqb (length bytes) stateSize n, s, e)
 
-pub loaded-not : (bytes : List ℕ) → (length bytes ≡ stateSize → ⊥) → refused ≡ loaded bytes
+pub loaded-unsaved : (bytes : List ℕ) → length bytes ≡ stateSize → isSaved bytes ≡ false → notLoaded ≡ loaded bytes
+unfolding loaded
+loaded-unsaved bytes n s = rw (eq-eqb (length bytes) stateSize n, s)
+
+pub loaded-not : (bytes : List ℕ) → (length bytes ≡ stateSize → ⊥) → notLoaded ≡ loaded bytes
 unfolding loaded
 loaded-not bytes n = rw (ne-eqb (length bytes) stateSize n)

@@ -1,17 +1,20 @@
 -- A saved device: the bytes of the blocks, one block after the other, and the way back. Each block defines its own bytes, in
 -- `specs/Saved.antt` of its crate. See docs/STATE.md.
 use Prim.Native.Nat.{ℕ, _+_}
-use mathlib.Core.Bool.{Bool, false, cond}
+use mathlib.Core.Bool.{Bool, cond}
 use mathlib.Core.List.{List, [], _∷_, _++_}
 use lib.Dec.{eqb}
 use lib.ListN.{drop, length, take}
 use Rattle.acpi.specs.Saved.{acpiBytes, acpiFrom, acpiSaved, acpiSize}
 use Rattle.config.specs.Saved.{configBytes, configFrom, configSaved, configSize}
-use Rattle.device.specs.Device.{freshDevice}
+use Rattle.acpi.specs.Acpi.{freshAcpi}
+use Rattle.acpi.specs.Fields.{withCpu}
+use Rattle.device.specs.Device.{freshDevice, withAcpi}
 use Rattle.device.specs.declared.Device.{Device}
 use Rattle.key.specs.Saved.{keyBytes, keyFrom, keySize}
 use Rattle.lists.specs.Tests.{allHold}
 use Rattle.monitor.specs.Saved.{monitorBytes, monitorFrom, monitorSaved, monitorSize}
+use Rattle.outcome.specs.Number as number
 use Rattle.state.specs.declared.LoadResult.{LoadResult}
 
 -- ---- where each block's bytes start, and how many there are in all
@@ -52,15 +55,23 @@ savedTests bytes =
 abbrev pub isSaved : List ℕ → Bool
 isSaved bytes = allHold (savedTests bytes)
 
-unfoldable pub loadedFrom : List ℕ → LoadResult
-loadedFrom bytes = record { valid = isSaved bytes; device = deviceFrom bytes }
-
--- ---- slices of any length: only a slice of `stateSize` bytes can hold a state
+-- ---- saving: only a slice of the length of a state is written
 unfoldable pub saved : Device → List ℕ → List ℕ
 saved d bytes = cond (eqb (length bytes) stateSize) (stateBytes d) bytes
 
-abbrev pub refused : LoadResult
-refused = record { valid = false; device = freshDevice }
+abbrev pub saveRefusal : List ℕ → ℕ
+saveRefusal bytes = cond (eqb (length bytes) stateSize) 0 number.badState
+
+-- ---- loading: bytes of another length, and bytes that no device can hold, are refused with 11 at place 0
+-- the CPU state is 0, 2 or 3, so this device is not in range, and every call refuses it
+abbrev pub noDevice : Device
+noDevice = withAcpi freshDevice (withCpu freshAcpi 1)
+
+abbrev pub notLoaded : LoadResult
+notLoaded = record { refusal = number.badState; place = 0; device = noDevice }
 
 unfoldable pub loaded : List ℕ → LoadResult
-loaded bytes = cond (eqb (length bytes) stateSize) (loadedFrom bytes) refused
+loaded bytes =
+    cond (eqb (length bytes) stateSize)
+    (cond (isSaved bytes) (record { refusal = 0; place = 0; device = deviceFrom bytes }) notLoaded)
+    notLoaded

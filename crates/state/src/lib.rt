@@ -8,7 +8,17 @@ ghost use mathlib.Core.Path.{_≡_};
 ghost use Prim.Native.Nat.{_+_, _≤_};
 ghost use lib.ListN.{length};
 ghost use lib.Seq.{paste};
-ghost use Rattle.state.specs.State.{stateBytes, stateSize, loadedFrom, saved, loaded};
+ghost use Rattle.state.specs.State.{
+  stateBytes,
+  stateSize,
+  isSaved,
+  deviceFrom,
+  noDevice,
+  notLoaded,
+  saveRefusal,
+  saved,
+  loaded,
+};
 
 // Where the bytes of each block start, and the length of a saved state.
 const KEY_START: usize = Config::SIZE;
@@ -19,9 +29,13 @@ const ACPI_START: usize = MONITOR_START + Monitor::SIZE;
 
 pub const SIZE: usize = ACPI_START + Acpi::SIZE;
 
-// The device that was read. `valid` is false if no device can hold the bytes, for example if a flag is neither 0 nor 1.
+// The CPU state is 0, 2 or 3.
+const NO_CPU_STATE: u8 = 1;
+
+// What `load` returns: refusal 0 and the device, or refusal 11, place 0 and a device that every call refuses.
 pub struct LoadResult {
-    pub valid: bool,
+    pub refusal: u32,
+    pub place: u32,
     pub device: Device,
 }
 
@@ -46,48 +60,83 @@ pub fn bytes_of(device: Device) -> [u8; SIZE]
     bytes
 }
 
-fn read_from(bytes: &[u8]) -> LoadResult
+// Whether a device can hold the bytes. It cannot, for example, if a flag is neither 0 nor 1.
+fn is_saved(bytes: &[u8]) -> bool
     requires { ⌜ length (now bytes) ≡ stateSize ⌝ }
-    ensures { λ r. ⌜ r ≡ loadedFrom (now (bytes .entry)) ⌝ }
+    ensures { λ r. ⌜ r ≡ isSaved (now (bytes .entry)) ⌝ }
+{
+    let config = &bytes[0..KEY_START];
+    let monitor = &bytes[MONITOR_START..ACPI_START];
+    let acpi = &bytes[ACPI_START..SIZE];
+    Config::is_saved(config) & (Monitor::is_saved(monitor) & Acpi::is_saved(acpi))
+}
+
+fn read_from(bytes: &[u8]) -> Device
+    requires { ⌜ length (now bytes) ≡ stateSize ⌝ }
+    ensures { λ r. ⌜ r ≡ deviceFrom (now (bytes .entry)) ⌝ }
 {
     let config = &bytes[0..KEY_START];
     let key = &bytes[KEY_START..MONITOR_START];
     let monitor = &bytes[MONITOR_START..ACPI_START];
     let acpi = &bytes[ACPI_START..SIZE];
-    let valid = Config::is_saved(config) & (Monitor::is_saved(monitor) & Acpi::is_saved(acpi));
-    let device = Device {
+    Device {
         config: Config::from_bytes(config),
         acpi: Acpi::from_bytes(acpi),
         monitor: Monitor::from_bytes(monitor),
         key: Key::from_bytes(key),
-    };
-    LoadResult { valid, device }
-}
-
-pub fn device_of(bytes: &[u8; SIZE]) -> LoadResult
-    ensures { λ r. ⌜ r ≡ loadedFrom (now (bytes .entry)) ⌝ }
-{
-    read_from(bytes)
-}
-
-// Writes the state into a slice of `SIZE` bytes. A slice of any other length is unchanged.
-pub fn save(device: Device, bytes: &mut [u8])
-    ensures { λ _. ⌜ now (bytes .exit) ≡ saved device (now (bytes .entry)) ⌝ }
-{
-    if bytes.len() == SIZE {
-        put(bytes, 0, &bytes_of(device));
     }
 }
 
-// Reads the state from a slice. A slice that is not `SIZE` bytes long is not valid.
+// A device with an illegal CPU state. It is not in range, so that a caller who overlooks the refusal is refused with 11 by the next call.
+fn no_device() -> Device
+    ensures { λ r. ⌜ r ≡ noDevice ⌝ }
+{
+    let fresh = Device::fresh();
+    let mut acpi = fresh.acpi;
+    acpi.cpu = NO_CPU_STATE;
+    Device {
+        config: fresh.config,
+        acpi,
+        monitor: fresh.monitor,
+        key: fresh.key,
+    }
+}
+
+fn not_loaded() -> LoadResult
+    ensures { λ r. ⌜ r ≡ notLoaded ⌝ }
+{
+    LoadResult {
+        refusal: outcome::BAD_STATE,
+        place: 0,
+        device: no_device(),
+    }
+}
+
+// Writes the state into a slice of `SIZE` bytes. A slice of any other length is unchanged, and refused with 11.
+pub fn save(device: Device, bytes: &mut [u8]) -> u32
+    ensures { λ r. ⌜ (r ≡ saveRefusal (now (bytes .entry))) × (now (bytes .exit) ≡ saved device (now (bytes .entry))) ⌝ }
+{
+    if bytes.len() == SIZE {
+        put(bytes, 0, &bytes_of(device));
+        return 0;
+    }
+    outcome::BAD_STATE
+}
+
+// Reads the state from a slice. Refuses a slice that is not `SIZE` bytes long, and bytes that no device can hold, with 11. A device that
+// is loaded may still be out of range; then the call that uses it is refused with 11.
 pub fn load(bytes: &[u8]) -> LoadResult
     ensures { λ r. ⌜ r ≡ loaded (now (bytes .entry)) ⌝ }
 {
     if bytes.len() != SIZE {
-        return LoadResult {
-            valid: false,
-            device: Device::fresh(),
-        };
+        return not_loaded();
     }
-    read_from(bytes)
+    if !is_saved(bytes) {
+        return not_loaded();
+    }
+    LoadResult {
+        refusal: 0,
+        place: 0,
+        device: read_from(bytes),
+    }
 }
