@@ -80,8 +80,14 @@ impl Acpi {
         let index = self.setupidx;
         match index {
             Acpi::SETUP_NONE => AccessResult::status(Answer::IGNORED, self),
-            Acpi::SETUP_FIRST_MAP..=Acpi::SETUP_LAST_MAP => self.map_write((index - Acpi::SETUP_FIRST_MAP) as usize, value),
-            Acpi::SETUP_GLOBAL_EVENT => AccessResult::status(Answer::DONE, self.raise(Acpi::GBL_STS)),
+            Acpi::SETUP_FIRST_MAP..=Acpi::SETUP_LAST_MAP => self.map_write(
+                (index - Acpi::SETUP_FIRST_MAP) as usize,
+                value,
+            ),
+            Acpi::SETUP_GLOBAL_EVENT => AccessResult::status(
+                Answer::DONE,
+                self.raise(Acpi::GBL_STS),
+            ),
             Acpi::SETUP_IRQ => self.irq_write(value),
             _ => AccessResult::status(Answer::UNDEFINED, self),
         }
