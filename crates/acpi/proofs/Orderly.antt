@@ -20,7 +20,9 @@ read-orderly : (a : Acpi) (offset : ℕ) → Orderly a false (registerRead a off
 unfolding registerRead
 read-orderly a offset =
     let P : Result Acpi → Type 0 = Orderly a false in
-    branch P (eqb offset at.pLvl2) read-done (branch P (eqb offset at.pLvl3) read-done (branch P (eqb offset at.setupData) read-kept read-done))
+    branch P (eqb offset at.pLvl2) read-done
+    (branch P (eqb offset at.pLvl3) read-done
+    (branch P (eqb offset at.setupData) read-kept read-done))
 
 module _ (a : Acpi) (w : Bool) where
   abbrev P : Result Acpi → Type 0

@@ -225,7 +225,8 @@ kept-mapped : (a : Acpi) → StaysInRange a → (m : ℕ) → StaysInRange (rais
 unfolding raiseMapped acpiInRange
 kept-mapped a h m =
     branch StaysInRange (eqb (m % 256) 0x08) (kept-raise a h bit.pwrbtnSts refl)
-    (branch StaysInRange (eqb (m % 256) 0x09) (kept-raise a h bit.slpbtnSts refl) (branch StaysInRange (isGpeTarget (m % 256)) h h))
+    (branch StaysInRange (eqb (m % 256) 0x09) (kept-raise a h bit.slpbtnSts refl)
+    (branch StaysInRange (isGpeTarget (m % 256)) h h))
 
 kept-pin : (a : Acpi) → StaysInRange a → (pin : ℕ) (level : Bool) → StaysInRange (pinLevel a pin level)
 unfolding pinLevel acpiInRange
@@ -240,7 +241,8 @@ event-in-range a h kind operand =
     branch StaysInRange (eqb kind 1) (kept-ticked a h operand)
     (branch StaysInRange (eqb kind 2) (kept-pin a h (operand % 8) (hasBit bit.pinLevel operand))
     (branch StaysInRange (eqb kind 3) (kept-raise a h bit.rtcSts refl)
-    (branch StaysInRange (eqb kind 4) (kept-raise a h bit.bmSts refl) (branch StaysInRange (eqb kind 7) (kept-raise a h bit.pwrbtnorSts refl) h))))
+    (branch StaysInRange (eqb kind 4) (kept-raise a h bit.bmSts refl)
+    (branch StaysInRange (eqb kind 7) (kept-raise a h bit.pwrbtnorSts refl) h))))
 
 kept-wake : (a : Acpi) → StaysInRange a → StaysInRange (wake a)
 unfolding wake acpiInRange

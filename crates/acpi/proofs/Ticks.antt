@@ -102,7 +102,8 @@ timer-wraps-once t n h l = pick (timerWraps t u) (timerWraps u v) refl refl
         sym (le-ltb v t (omega arith))
 
 -- n + 1 ticks are n ticks and one more
-pub ticked-more : (a : Acpi) (n : ℕ) → a .timer < timerSize → suc n < timerSize → ticked a (suc n) ≡ ticked (ticked a n) 1
+pub ticked-more : (a : Acpi) (n : ℕ) → a .timer < timerSize → suc n < timerSize
+    → ticked a (suc n) ≡ ticked (ticked a n) 1
 unfolding ticked
 ticked-more a n h l =
     let same : (a .timer + suc n) % timerSize ≡ (u + 1) % timerSize = omega arith in

@@ -84,7 +84,9 @@ unfoldable pub acpiEvent : Acpi → ℕ → ℕ → Acpi
 acpiEvent a kind operand =
     cond (eqb kind 1) (ticked a operand)
     (cond (eqb kind 2) (pinLevel a (operand % 8) (hasBit bit.pinLevel operand))
-    (cond (eqb kind 3) (raise a bit.rtcSts) (cond (eqb kind 4) (raise a bit.bmSts) (cond (eqb kind 7) (raise a bit.pwrbtnorSts) a))))
+    (cond (eqb kind 3) (raise a bit.rtcSts)
+    (cond (eqb kind 4) (raise a bit.bmSts)
+    (cond (eqb kind 7) (raise a bit.pwrbtnorSts) a))))
 
 -- "After every event and access, in order: a sleeping chip with pending wakes and sets WAKE_STS (bit 15); [..] either [SCI
 -- or SMI] sets CPU state 0."

@@ -47,7 +47,9 @@ registerValue a offset =
     (cond (eqb offset at.pm1aEn) (a .pm1en)
     (cond (eqb offset at.pm1aCnt) (controlRead a)
     (cond (eqb offset at.setupIdx) (a .setupidx)
-    (cond (eqb offset at.gpe0Sts) (a .gpe0sts) (cond (eqb offset at.gpe0En) (a .gpe0en) (cond (eqb offset at.timer) (a .timer) 0)))))))
+    (cond (eqb offset at.gpe0Sts) (a .gpe0sts)
+    (cond (eqb offset at.gpe0En) (a .gpe0en)
+    (cond (eqb offset at.timer) (a .timer) 0)))))))
 
 -- "4, 5 (1) P_LVL2, P_LVL3: read 0, a read puts the CPU state to 2, 3"
 unfoldable pub registerRead : Acpi → ℕ → Result Acpi

@@ -28,7 +28,8 @@ unfoldable pub setupRead : Acpi → Answer
 setupRead a =
     cond (eqb (a .setupidx) index.none) (done 0)
     (cond (isMapIndex (a .setupidx)) (done (getD (a .maps) (a .setupidx - index.firstMap) 0))
-    (cond (eqb (a .setupidx) index.globalEvent) (done 0) (cond (eqb (a .setupidx) index.irq) (done (a .irq)) (statusOnly 3))))
+    (cond (eqb (a .setupidx) index.globalEvent) (done 0)
+    (cond (eqb (a .setupidx) index.irq) (done (a .irq)) (statusOnly 3))))
 
 -- "Other values, and an IRQ above 15, are status 5."
 unfoldable pub mapWrite : Acpi → ℕ → ℕ → Result Acpi

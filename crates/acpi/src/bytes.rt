@@ -1,6 +1,6 @@
 // The ACPI block as 45 bytes, and back. `state` calls it. See docs/STATE.md.
 ghost use mathlib.Core.Path.{_≡_};
-ghost use Prim.Native.Nat.{_<_};
+ghost use Prim.Native.Nat.{_+_, _<_};
 ghost use lib.ListN.{length};
 ghost use Rattle.little_endian.specs.Bytes.{twoAt, fourAt};
 ghost use Rattle.acpi.specs.Saved.{acpiBytes, acpiFrom, acpiSaved, acpiSize, mapsFrom, levelsFrom};
@@ -8,7 +8,7 @@ use crate::Acpi;
 
 fn two_at(bytes: &[u8], at: usize) -> u16
     requires { ⌜ length (now bytes) ≡ acpiSize ⌝ }
-    requires { ⌜ at < 44 ⌝ }
+    requires { ⌜ at + 1 < acpiSize ⌝ }
     ensures { λ r. ⌜ r ≡ twoAt (now (bytes .entry)) at ⌝ }
 {
     little_endian::two(bytes[at], bytes[at + 1])

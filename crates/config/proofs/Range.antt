@@ -43,7 +43,9 @@ ResultInRange r = configInRange (r .block) ≡ true
 module _ (g : Config) (h : configInRange g ≡ true) where
   index-write : (v : ℕ) → ResultInRange (indexWrite g v)
   unfolding indexWrite configInRange
-  index-write v = branch ResultInRange (g .unlocked) (branch ResultInRange (eqb v lockValue) h h) (branch ResultInRange (eqb v unlockValue) h h)
+  index-write v =
+      branch ResultInRange (g .unlocked) (branch ResultInRange (eqb v lockValue) h h)
+      (branch ResultInRange (eqb v unlockValue) h h)
 
   control-write : (v : ℕ) → ResultInRange (controlWrite g v)
   unfolding controlWrite configInRange
@@ -56,18 +58,21 @@ module _ (g : Config) (h : configInRange g ≡ true) where
   unfolding registerWrite configInRange
   register-write v =
       branch ResultInRange (eqb (g .index) register.activate)
-      (and-both (within mask.activate (bitAnd v mask.activate)) (within mask.keyControl (g .control)) (within-masked mask.activate v)
+      (and-both (within mask.activate (bitAnd v mask.activate)) (within mask.keyControl (g .control))
+      (within-masked mask.activate v)
       (and-right (within mask.activate (g .activate)) (within mask.keyControl (g .control)) h))
       (branch ResultInRange (eqb (g .index) register.runtimeBaseHigh) h
       (branch ResultInRange (eqb (g .index) register.runtimeBaseLow) h
       (branch ResultInRange (eqb (g .index) register.keyBaseHigh) h
-      (branch ResultInRange (eqb (g .index) register.keyBaseLow) h (branch ResultInRange (eqb (g .index) register.keyControl) (control-write v) h)))))
+      (branch ResultInRange (eqb (g .index) register.keyBaseLow) h
+      (branch ResultInRange (eqb (g .index) register.keyControl) (control-write v) h)))))
 
   data-write : (v : ℕ) → ResultInRange (dataWrite g v)
   unfolding dataWrite configInRange
   data-write v =
       branch ResultInRange (g .unlocked)
-      (branch ResultInRange (eqb (g .index) register.deviceNumber) h (branch ResultInRange (eqb (g .number) runtimeDevice) (register-write v) h))
+      (branch ResultInRange (eqb (g .index) register.deviceNumber) h
+      (branch ResultInRange (eqb (g .number) runtimeDevice) (register-write v) h))
       h
 
 pub access-in-range :
