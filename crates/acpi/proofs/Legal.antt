@@ -10,9 +10,11 @@ use lib.Dec.{eqb, leb, ltb}
 use lib.Pow.{pow-lt}
 use native.Mathlib.Nat.{one-mul, mod-eq-of-lt}
 use Rattle.mask.proofs.Every.{and-both, and-left, and-right}
-use Rattle.acpi.specs.Setup.{isMapIndex, isSetupIndex}
-use Rattle.acpi.specs.Map.{isGpeTarget, legalMap, legalTarget}
+use Rattle.acpi.specs.Event.{timerSize}
+use Rattle.acpi.specs.Map.{isGpeTarget, legalMap, legalTarget, mapMax, mapReserved}
 use Rattle.acpi.specs.Settle.{pending, sciOn, smiOn}
+use Rattle.acpi.specs.Setup.{isMapIndex, isSetupIndex}
+use Rattle.acpi.specs.SetupIndex as index
 use Rattle.acpi.specs.declared.Acpi.{Acpi}
 
 or-cases : (a b : Bool) → (a || b) ≡ true → (a ≡ true) ⊎ (b ≡ true)
@@ -27,23 +29,23 @@ pub outside : (lo hi x : ℕ) → (x < lo) ⊎ (suc hi ≤ x) → (leb lo x && l
 outside lo hi x (inl l) = rw (lt-leb lo x l)
 outside lo hi x (inr h) = rw (lt-leb x hi (omega arith)) (and-false (leb lo x))
 
-pub setup-index : (i : ℕ) → isSetupIndex i ≡ true → i ≤ 0x41
+pub setup-index : (i : ℕ) → isSetupIndex i ≡ true → i ≤ index.irq
 setup-index i h =
     ⊎-elim
     (λ r. ⊎-elim
-    (λ s. ⊎-elim (λ z. let e = eqb-true i 0x00 z in omega arith)
-    (λ m. let b = leb-true i 0x17 (and-right (leb 0x10 i) (leb i 0x17) m) in omega arith)
-    (or-cases (eqb i 0x00) (isMapIndex i) s))
-    (λ x. let e = eqb-true i 0x40 x in omega arith)
-    (or-cases (eqb i 0x00 || isMapIndex i) (eqb i 0x40) r))
-    (λ y. let e = eqb-true i 0x41 y in omega arith)
-    (or-cases (eqb i 0x00 || isMapIndex i || eqb i 0x40) (eqb i 0x41) h)
+    (λ s. ⊎-elim (λ z. let e = eqb-true i index.none z in omega arith)
+    (λ m. let b = leb-true i index.lastMap (and-right (leb index.firstMap i) (leb i index.lastMap) m) in omega arith)
+    (or-cases (eqb i index.none) (isMapIndex i) s))
+    (λ x. let e = eqb-true i index.globalEvent x in omega arith)
+    (or-cases (eqb i index.none || isMapIndex i) (eqb i index.globalEvent) r))
+    (λ y. let e = eqb-true i index.irq y in omega arith)
+    (or-cases (eqb i index.none || isMapIndex i || eqb i index.globalEvent) (eqb i index.irq) h)
 
-pub legal-map : (v : ℕ) → legalMap v ≡ true → v ≤ 0x1FFF
+pub legal-map : (v : ℕ) → legalMap v ≡ true → v ≤ mapMax
 unfolding legalMap
 legal-map v h =
-    let zeros = eqb (bitAnd v 0x0E00) 0 in
-    leb-true v 0x1FFF (and-left (leb v 0x1FFF) zeros (and-left (leb v 0x1FFF && zeros) (legalTarget (v % 256)) h))
+    let zeros = eqb (bitAnd v mapReserved) 0 in
+    leb-true v mapMax (and-left (leb v mapMax) zeros (and-left (leb v mapMax && zeros) (legalTarget (v % 256)) h))
 
 -- SCI or SMI is on exactly if a status bit is pending
 pub either : (a : Acpi) → (sciOn a || smiOn a) ≡ pending a
@@ -56,7 +58,7 @@ either a = pick (pending a) (a .scien)
     pick false s = refl
 
 -- a sum that wraps at 32 bits has the same remainder by 2^24
-pub remainder : (t n s : ℕ) → s ≡ (t + n) % 2 ^ 32 → s % 2 ^ 24 ≡ (t + n) % 2 ^ 24
+pub remainder : (t n s : ℕ) → s ≡ (t + n) % 2 ^ 32 → s % timerSize ≡ (t + n) % timerSize
 remainder t n s h = omega arith
 
 -- a single bit below bit 16 fits 16 bits

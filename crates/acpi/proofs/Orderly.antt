@@ -8,16 +8,21 @@ use Rattle.access.specs.declared.Access.{Access}
 use Rattle.mask.proofs.Branch.{branch, branch-on}
 use Rattle.mask.specs.Mask.{hasBit}
 use Rattle.acpi.specs.Acpi.{acpiAccess}
+use Rattle.acpi.specs.Bit as bit
 use Rattle.acpi.specs.Map.{legalMap}
+use Rattle.acpi.specs.Offset as at
 use Rattle.acpi.specs.Registers.{commandWrite, controlWrite, registerRead, registerWrite, takes}
-use Rattle.acpi.specs.Setup.{irqWrite, isMapIndex, isSetupIndex, mapWrite, setupIndexWrite, setupWrite}
+use Rattle.acpi.specs.Setup.{irqMax, irqWrite, isMapIndex, isSetupIndex, mapWrite, setupIndexWrite, setupWrite}
+use Rattle.acpi.specs.SetupIndex as index
 use Rattle.acpi.specs.declared.Acpi.{Acpi}
 
 read-orderly : (a : Acpi) (offset : ℕ) → Orderly a false (registerRead a offset)
 unfolding registerRead
 read-orderly a offset =
     let P : Result Acpi → Type 0 = Orderly a false in
-    branch P (eqb offset 4) read-done (branch P (eqb offset 5) read-done (branch P (eqb offset 20) read-kept read-done))
+    branch P (eqb offset at.pLvl2) read-done
+    (branch P (eqb offset at.pLvl3) read-done
+    (branch P (eqb offset at.setupData) read-kept read-done))
 
 module _ (a : Acpi) (w : Bool) where
   abbrev P : Result Acpi → Type 0
@@ -29,7 +34,7 @@ module _ (a : Acpi) (w : Bool) where
 
   control-orderly : (v : ℕ) → P (controlWrite a v)
   unfolding controlWrite
-  control-orderly v = branch P (hasBit 0x2000 v) write-done write-done
+  control-orderly v = branch P (hasBit bit.slpEn v) write-done write-done
 
   setup-index-orderly : (v : ℕ) → P (setupIndexWrite a v)
   unfolding setupIndexWrite
@@ -41,26 +46,26 @@ module _ (a : Acpi) (w : Bool) where
 
   irq-orderly : (v : ℕ) → P (irqWrite a v)
   unfolding irqWrite
-  irq-orderly v = branch P (leb v 15) write-done kept
+  irq-orderly v = branch P (leb v irqMax) write-done kept
 
   setup-orderly : (v : ℕ) → P (setupWrite a v)
   unfolding setupWrite
   setup-orderly v =
-      branch P (eqb (a .setupidx) 0x00) kept
-      (branch P (isMapIndex (a .setupidx)) (map-orderly (a .setupidx - 0x10) v)
-      (branch P (eqb (a .setupidx) 0x40) write-done (branch P (eqb (a .setupidx) 0x41) (irq-orderly v) kept)))
+      branch P (eqb (a .setupidx) index.none) kept
+      (branch P (isMapIndex (a .setupidx)) (map-orderly (a .setupidx - index.firstMap) v)
+      (branch P (eqb (a .setupidx) index.globalEvent) write-done (branch P (eqb (a .setupidx) index.irq) (irq-orderly v) kept)))
 
   write-orderly : (offset v : ℕ) → P (registerWrite a offset v)
   unfolding registerWrite
   write-orderly offset v =
-      branch P (eqb offset 0) write-done
-      (branch P (eqb offset 6) (command-orderly v)
-      (branch P (eqb offset 8) write-done
-      (branch P (eqb offset 10) write-done
-      (branch P (eqb offset 12) (control-orderly v)
-      (branch P (eqb offset 14) (setup-index-orderly v)
-      (branch P (eqb offset 16) write-done
-      (branch P (eqb offset 18) write-done (branch P (eqb offset 20) (setup-orderly v) kept))))))))
+      branch P (eqb offset at.pCnt) write-done
+      (branch P (eqb offset at.smiCmd) (command-orderly v)
+      (branch P (eqb offset at.pm1aSts) write-done
+      (branch P (eqb offset at.pm1aEn) write-done
+      (branch P (eqb offset at.pm1aCnt) (control-orderly v)
+      (branch P (eqb offset at.setupIdx) (setup-index-orderly v)
+      (branch P (eqb offset at.gpe0Sts) write-done
+      (branch P (eqb offset at.gpe0En) write-done (branch P (eqb offset at.setupData) (setup-orderly v) kept))))))))
 
 pub acpi-orderly : (a : Acpi) (offset : ℕ) (x : Access) → Orderly a (x .write) (acpiAccess a offset x)
 unfolding acpiAccess

@@ -1,6 +1,6 @@
 -- The fresh ACPI block is in range, and every reset, access, event and settling keeps it in range: values are masked or tested
 -- before they are stored, status bits are set within the mask, and the timer is a remainder.
-use Prim.Native.Nat.{ℕ, _+_, _-_, _%_, _^_, _<_}
+use Prim.Native.Nat.{ℕ, _+_, _-_, _%_, _<_}
 use mathlib.Core.Path.{_≡_, refl}
 use mathlib.Core.Bool.{Bool, true, false, _&&_, _||_}
 use mathlib.Core.List.{List}
@@ -28,7 +28,8 @@ use Rattle.acpi.specs.Acpi.{
   mapInRange,
   rangeTests,
 }
-use Rattle.acpi.specs.Event.{timerWraps, pinLevel, raiseMapped, ticked}
+use Rattle.acpi.specs.Bit as bit
+use Rattle.acpi.specs.Event.{pinLevel, raiseMapped, ticked, timerSize, timerWraps}
 use Rattle.acpi.specs.Fields.{
   raise,
   withCpu,
@@ -44,9 +45,12 @@ use Rattle.acpi.specs.Fields.{
   withTimer,
 }
 use Rattle.acpi.specs.Map.{inDirection, isGpeTarget, legalMap}
+use Rattle.acpi.specs.Mask as mask
+use Rattle.acpi.specs.Offset as at
 use Rattle.acpi.specs.Registers.{commandWrite, controlWrite, registerRead, registerWrite, takes}
 use Rattle.acpi.specs.Settle.{pending, sciOn, smiOn, wake}
-use Rattle.acpi.specs.Setup.{irqWrite, isMapIndex, isSetupIndex, mapWrite, setupIndexWrite, setupWrite}
+use Rattle.acpi.specs.Setup.{irqMax, irqWrite, isMapIndex, isSetupIndex, mapWrite, setupIndexWrite, setupWrite}
+use Rattle.acpi.specs.SetupIndex as index
 use Rattle.acpi.specs.declared.Acpi.{Acpi}
 
 pub fresh-in-range : acpiInRange freshAcpi ≡ true
@@ -55,14 +59,14 @@ fresh-in-range = refl
 
 -- ---- the range test as one test for each field, and back
 record Ranged (a : Acpi) : Type 0 where
-  pcnt : within 0x17 (a .pcnt) ≡ true
+  pcnt : within mask.pCnt (a .pcnt) ≡ true
   cpu : isCpuState (a .cpu) ≡ true
-  pm1sts : within 0x8F31 (a .pm1sts) ≡ true
-  pm1en : within 0x0721 (a .pm1en) ≡ true
-  pm1cnt : within 0x1C02 (a .pm1cnt) ≡ true
+  pm1sts : within mask.pm1aSts (a .pm1sts) ≡ true
+  pm1en : within mask.pm1aEn (a .pm1en) ≡ true
+  pm1cnt : within mask.pm1aCnt (a .pm1cnt) ≡ true
   setupidx : isSetupIndex (a .setupidx) ≡ true
-  irq : leb (a .irq) 15 ≡ true
-  timer : ltb (a .timer) (2 ^ 24) ≡ true
+  irq : leb (a .irq) irqMax ≡ true
+  timer : ltb (a .timer) timerSize ≡ true
   maps : allBelow 8 (mapInRange (a .maps)) ≡ true
 
 apart : (a : Acpi) → acpiInRange a ≡ true → Ranged a
@@ -82,14 +86,14 @@ apart a h =
     }
 
 together : (a : Acpi)
-    → within 0x17 (a .pcnt) ≡ true
+    → within mask.pCnt (a .pcnt) ≡ true
     → isCpuState (a .cpu) ≡ true
-    → within 0x8F31 (a .pm1sts) ≡ true
-    → within 0x0721 (a .pm1en) ≡ true
-    → within 0x1C02 (a .pm1cnt) ≡ true
+    → within mask.pm1aSts (a .pm1sts) ≡ true
+    → within mask.pm1aEn (a .pm1en) ≡ true
+    → within mask.pm1aCnt (a .pm1cnt) ≡ true
     → isSetupIndex (a .setupidx) ≡ true
-    → leb (a .irq) 15 ≡ true
-    → ltb (a .timer) (2 ^ 24) ≡ true
+    → leb (a .irq) irqMax ≡ true
+    → ltb (a .timer) timerSize ≡ true
     → allBelow 8 (mapInRange (a .maps)) ≡ true
     → acpiInRange a ≡ true
 unfolding acpiInRange
@@ -106,11 +110,11 @@ module _ (a : Acpi) (h : acpiInRange a ≡ true) where
   r : Ranged a
   r = apart a h
 
-  pub timer-below : a .timer < 2 ^ 24
-  timer-below = ltb-true (a .timer) (2 ^ 24) (r .timer)
+  pub timer-below : a .timer < timerSize
+  timer-below = ltb-true (a .timer) timerSize (r .timer)
 
   -- ---- one field changed; pin levels, SCI_EN, sleeping, GPE0_STS and GPE0_EN take any value
-  kept-pcnt : (v : ℕ) → within 0x17 v ≡ true → StaysInRange (withPcnt a v)
+  kept-pcnt : (v : ℕ) → within mask.pCnt v ≡ true → StaysInRange (withPcnt a v)
   kept-pcnt v k =
       together (withPcnt a v) k (r .cpu) (r .pm1sts) (r .pm1en) (r .pm1cnt) (r .setupidx) (r .irq) (r .timer) (r .maps)
 
@@ -118,15 +122,15 @@ module _ (a : Acpi) (h : acpiInRange a ≡ true) where
   kept-cpu v k =
       together (withCpu a v) (r .pcnt) k (r .pm1sts) (r .pm1en) (r .pm1cnt) (r .setupidx) (r .irq) (r .timer) (r .maps)
 
-  kept-pm1sts : (v : ℕ) → within 0x8F31 v ≡ true → StaysInRange (withPm1sts a v)
+  kept-pm1sts : (v : ℕ) → within mask.pm1aSts v ≡ true → StaysInRange (withPm1sts a v)
   kept-pm1sts v k =
       together (withPm1sts a v) (r .pcnt) (r .cpu) k (r .pm1en) (r .pm1cnt) (r .setupidx) (r .irq) (r .timer) (r .maps)
 
-  kept-pm1en : (v : ℕ) → within 0x0721 v ≡ true → StaysInRange (withPm1en a v)
+  kept-pm1en : (v : ℕ) → within mask.pm1aEn v ≡ true → StaysInRange (withPm1en a v)
   kept-pm1en v k =
       together (withPm1en a v) (r .pcnt) (r .cpu) (r .pm1sts) k (r .pm1cnt) (r .setupidx) (r .irq) (r .timer) (r .maps)
 
-  kept-pm1cnt : (v : ℕ) → within 0x1C02 v ≡ true → StaysInRange (withPm1cnt a v)
+  kept-pm1cnt : (v : ℕ) → within mask.pm1aCnt v ≡ true → StaysInRange (withPm1cnt a v)
   kept-pm1cnt v k =
       together (withPm1cnt a v) (r .pcnt) (r .cpu) (r .pm1sts) (r .pm1en) k (r .setupidx) (r .irq) (r .timer) (r .maps)
 
@@ -134,11 +138,11 @@ module _ (a : Acpi) (h : acpiInRange a ≡ true) where
   kept-setupidx v k =
       together (withSetupidx a v) (r .pcnt) (r .cpu) (r .pm1sts) (r .pm1en) (r .pm1cnt) k (r .irq) (r .timer) (r .maps)
 
-  kept-irq : (v : ℕ) → leb v 15 ≡ true → StaysInRange (withIrq a v)
+  kept-irq : (v : ℕ) → leb v irqMax ≡ true → StaysInRange (withIrq a v)
   kept-irq v k =
       together (withIrq a v) (r .pcnt) (r .cpu) (r .pm1sts) (r .pm1en) (r .pm1cnt) (r .setupidx) k (r .timer) (r .maps)
 
-  kept-timer : (v : ℕ) → ltb v (2 ^ 24) ≡ true → StaysInRange (withTimer a v)
+  kept-timer : (v : ℕ) → ltb v timerSize ≡ true → StaysInRange (withTimer a v)
   kept-timer v k =
       together (withTimer a v) (r .pcnt) (r .cpu) (r .pm1sts) (r .pm1en) (r .pm1cnt) (r .setupidx) (r .irq) k (r .maps)
 
@@ -146,15 +150,15 @@ module _ (a : Acpi) (h : acpiInRange a ≡ true) where
   kept-maps ms k =
       together (withMaps a ms) (r .pcnt) (r .cpu) (r .pm1sts) (r .pm1en) (r .pm1cnt) (r .setupidx) (r .irq) (r .timer) k
 
-  kept-raise : (bits : ℕ) → within 0x8F31 bits ≡ true → StaysInRange (raise a bits)
-  kept-raise bits k = kept-pm1sts (bitOr (a .pm1sts) bits) (within-or 0x8F31 (a .pm1sts) bits (r .pm1sts) k)
+  kept-raise : (bits : ℕ) → within mask.pm1aSts bits ≡ true → StaysInRange (raise a bits)
+  kept-raise bits k = kept-pm1sts (bitOr (a .pm1sts) bits) (within-or mask.pm1aSts (a .pm1sts) bits (r .pm1sts) k)
 
   -- ---- accesses
   kept-read : (offset : ℕ) → ResultInRange (registerRead a offset)
   unfolding registerRead
   kept-read offset =
-      branch ResultInRange (eqb offset 4) (kept-cpu 2 refl)
-      (branch ResultInRange (eqb offset 5) (kept-cpu 3 refl) (branch ResultInRange (eqb offset 20) h h))
+      branch ResultInRange (eqb offset at.pLvl2) (kept-cpu 2 refl)
+      (branch ResultInRange (eqb offset at.pLvl3) (kept-cpu 3 refl) (branch ResultInRange (eqb offset at.setupData) h h))
 
   kept-map : (pin v : ℕ) → ResultInRange (mapWrite a pin v)
   unfolding mapWrite
@@ -166,10 +170,10 @@ module _ (a : Acpi) (h : acpiInRange a ≡ true) where
   kept-setup : (v : ℕ) → ResultInRange (setupWrite a v)
   unfolding setupWrite irqWrite
   kept-setup v =
-      branch ResultInRange (eqb (a .setupidx) 0x00) h
-      (branch ResultInRange (isMapIndex (a .setupidx)) (kept-map (a .setupidx - 0x10) v)
-      (branch ResultInRange (eqb (a .setupidx) 0x40) (kept-raise 0x0020 refl)
-      (branch ResultInRange (eqb (a .setupidx) 0x41) (branch-on ResultInRange (leb v 15) (kept-irq v) (λ l. h)) h)))
+      branch ResultInRange (eqb (a .setupidx) index.none) h
+      (branch ResultInRange (isMapIndex (a .setupidx)) (kept-map (a .setupidx - index.firstMap) v)
+      (branch ResultInRange (eqb (a .setupidx) index.globalEvent) (kept-raise bit.gblSts refl)
+      (branch ResultInRange (eqb (a .setupidx) index.irq) (branch-on ResultInRange (leb v irqMax) (kept-irq v) (λ l. h)) h)))
 
   kept-setup-index : (v : ℕ) → ResultInRange (setupIndexWrite a v)
   unfolding setupIndexWrite
@@ -182,22 +186,22 @@ module _ (a : Acpi) (h : acpiInRange a ≡ true) where
   kept-control : (v : ℕ) → ResultInRange (controlWrite a v)
   unfolding controlWrite acpiInRange
   kept-control v =
-      let k = kept-pm1cnt (bitAnd v 0x1C02) (within-masked 0x1C02 v) in
-      branch ResultInRange (hasBit 0x2000 v) k k
+      let k = kept-pm1cnt (bitAnd v mask.pm1aCnt) (within-masked mask.pm1aCnt v) in
+      branch ResultInRange (hasBit bit.slpEn v) k k
 
   kept-write : (offset v : ℕ) → ResultInRange (registerWrite a offset v)
   unfolding registerWrite acpiInRange
   kept-write offset v =
-      branch ResultInRange (eqb offset 0) (kept-pcnt (bitAnd v 0x17) (within-masked 0x17 v))
-      (branch ResultInRange (eqb offset 6) (kept-command v)
-      (branch ResultInRange (eqb offset 8)
-      (kept-pm1sts (cleared 0xFFFF (a .pm1sts) (bitAnd v 0xFFFF))
-      (within-and 0x8F31 (a .pm1sts) (0xFFFF - bitAnd v 0xFFFF) (r .pm1sts)))
-      (branch ResultInRange (eqb offset 10) (kept-pm1en (bitAnd v 0x0721) (within-masked 0x0721 v))
-      (branch ResultInRange (eqb offset 12) (kept-control v)
-      (branch ResultInRange (eqb offset 14) (kept-setup-index v)
-      (branch ResultInRange (eqb offset 16) h
-      (branch ResultInRange (eqb offset 18) h (branch ResultInRange (eqb offset 20) (kept-setup v) h))))))))
+      branch ResultInRange (eqb offset at.pCnt) (kept-pcnt (bitAnd v mask.pCnt) (within-masked mask.pCnt v))
+      (branch ResultInRange (eqb offset at.smiCmd) (kept-command v)
+      (branch ResultInRange (eqb offset at.pm1aSts)
+      (kept-pm1sts (cleared mask.allBits (a .pm1sts) (bitAnd v mask.allBits))
+      (within-and mask.pm1aSts (a .pm1sts) (mask.allBits - bitAnd v mask.allBits) (r .pm1sts)))
+      (branch ResultInRange (eqb offset at.pm1aEn) (kept-pm1en (bitAnd v mask.pm1aEn) (within-masked mask.pm1aEn v))
+      (branch ResultInRange (eqb offset at.pm1aCnt) (kept-control v)
+      (branch ResultInRange (eqb offset at.setupIdx) (kept-setup-index v)
+      (branch ResultInRange (eqb offset at.gpe0Sts) h
+      (branch ResultInRange (eqb offset at.gpe0En) h (branch ResultInRange (eqb offset at.setupData) (kept-setup v) h))))))))
 
   pub access-in-range : (offset : ℕ) (x : Access) → acpiInRange (acpiAccess a offset x .block) ≡ true
   unfolding acpiAccess
@@ -213,15 +217,16 @@ module _ (a : Acpi) (h : acpiInRange a ≡ true) where
 kept-ticked : (a : Acpi) → StaysInRange a → (n : ℕ) → StaysInRange (ticked a n)
 unfolding ticked
 kept-ticked a h n =
-    let v = (a .timer + n) % 2 ^ 24 in
-    let k = kept-timer a h v (lt-ltb v (2 ^ 24) (omega arith)) in
-    branch StaysInRange (timerWraps (a .timer) v) (kept-raise (withTimer a v) k 0x0001 refl) k
+    let v = (a .timer + n) % timerSize in
+    let k = kept-timer a h v (lt-ltb v timerSize (omega arith)) in
+    branch StaysInRange (timerWraps (a .timer) v) (kept-raise (withTimer a v) k bit.tmrSts refl) k
 
 kept-mapped : (a : Acpi) → StaysInRange a → (m : ℕ) → StaysInRange (raiseMapped a m)
 unfolding raiseMapped acpiInRange
 kept-mapped a h m =
-    branch StaysInRange (eqb (m % 256) 0x08) (kept-raise a h 0x0100 refl)
-    (branch StaysInRange (eqb (m % 256) 0x09) (kept-raise a h 0x0200 refl) (branch StaysInRange (isGpeTarget (m % 256)) h h))
+    branch StaysInRange (eqb (m % 256) 0x08) (kept-raise a h bit.pwrbtnSts refl)
+    (branch StaysInRange (eqb (m % 256) 0x09) (kept-raise a h bit.slpbtnSts refl)
+    (branch StaysInRange (isGpeTarget (m % 256)) h h))
 
 kept-pin : (a : Acpi) → StaysInRange a → (pin : ℕ) (level : Bool) → StaysInRange (pinLevel a pin level)
 unfolding pinLevel acpiInRange
@@ -234,13 +239,14 @@ pub event-in-range : (a : Acpi) → acpiInRange a ≡ true → (kind operand : �
 unfolding acpiEvent
 event-in-range a h kind operand =
     branch StaysInRange (eqb kind 1) (kept-ticked a h operand)
-    (branch StaysInRange (eqb kind 2) (kept-pin a h (operand % 8) (hasBit 0x08 operand))
-    (branch StaysInRange (eqb kind 3) (kept-raise a h 0x0400 refl)
-    (branch StaysInRange (eqb kind 4) (kept-raise a h 0x0010 refl) (branch StaysInRange (eqb kind 7) (kept-raise a h 0x0800 refl) h))))
+    (branch StaysInRange (eqb kind 2) (kept-pin a h (operand % 8) (hasBit bit.pinLevel operand))
+    (branch StaysInRange (eqb kind 3) (kept-raise a h bit.rtcSts refl)
+    (branch StaysInRange (eqb kind 4) (kept-raise a h bit.bmSts refl)
+    (branch StaysInRange (eqb kind 7) (kept-raise a h bit.pwrbtnorSts refl) h))))
 
 kept-wake : (a : Acpi) → StaysInRange a → StaysInRange (wake a)
 unfolding wake acpiInRange
-kept-wake a h = branch StaysInRange (a .sleeping && pending a) (kept-raise (withSleeping a false) h 0x8000 refl) h
+kept-wake a h = branch StaysInRange (a .sleeping && pending a) (kept-raise (withSleeping a false) h bit.wakeSts refl) h
 
 pub settle-in-range : (a : Acpi) → acpiInRange a ≡ true → acpiInRange (acpiSettle a) ≡ true
 unfolding acpiSettle

@@ -23,7 +23,7 @@ use Rattle.little_endian.proofs.ReadBack.{
 }
 use Rattle.little_endian.specs.Bytes.{byte0, byte1, flagAt, flagByte, isFlag, two}
 use Rattle.mask.proofs.Every.{all-at, and-left, and-right}
-use Rattle.acpi.specs.Saved.{acpiBytes, acpiFrom, acpiSaved, levelsFrom, levelsSaved, mapsFrom}
+use Rattle.acpi.specs.Saved.{acpiBytes, acpiFrom, acpiSaved, acpiSize, levelsFrom, levelsSaved, mapsFrom}
 use Rattle.acpi.specs.declared.Acpi.{Acpi}
 
 -- each field fits its bytes, and each array has its length; the types of the code ensure it
@@ -40,7 +40,7 @@ pub record Typed (a : Acpi) : Type 0 where
   pub levels : length (a .levels) ≡ 8
 
 -- ---- a block, saved and loaded
-pub bytes-length : (a : Acpi) → length (acpiBytes a) ≡ 45
+pub bytes-length : (a : Acpi) → length (acpiBytes a) ≡ acpiSize
 bytes-length a = refl
 
 pub bytes-saved : (a : Acpi) → acpiSaved (acpiBytes a) ≡ true
@@ -89,7 +89,7 @@ module _ (bytes : List ℕ) (byte : (k : ℕ) → getD bytes k 0 < 256) (saved :
       byte-flag (getD bytes (37 + k) 0)
       (all-at 8 (λ j. isFlag bytes (37 + j)) (and-right (isFlag bytes 2 && isFlag bytes 9) (levelsSaved bytes) saved) k l)
 
-  bytes-back : acpiBytes (acpiFrom bytes) ≡ slice 0 45 0 bytes
+  bytes-back : acpiBytes (acpiFrom bytes) ≡ slice 0 acpiSize 0 bytes
   unfolding acpiFrom
   bytes-back =
       let b : ℕ → ℕ = λ k. getD bytes k 0 in
@@ -112,6 +112,6 @@ module _ (bytes : List ℕ) (byte : (k : ℕ) → getD bytes k 0 < 256) (saved :
       (simp (low-at, high-at))
 
 pub save-back :
-    (bytes : List ℕ) → length bytes ≡ 45 → ((k : ℕ) → getD bytes k 0 < 256) → acpiSaved bytes ≡ true
+    (bytes : List ℕ) → length bytes ≡ acpiSize → ((k : ℕ) → getD bytes k 0 < 256) → acpiSaved bytes ≡ true
     → acpiBytes (acpiFrom bytes) ≡ bytes
-save-back bytes n byte saved = bytes-back bytes byte saved ∙ slice-whole 0 45 bytes n
+save-back bytes n byte saved = bytes-back bytes byte saved ∙ slice-whole 0 acpiSize bytes n

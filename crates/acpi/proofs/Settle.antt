@@ -8,6 +8,7 @@ use Rattle.mask.proofs.HasBit.{has-or}
 use Rattle.mask.specs.Mask.{hasBit}
 use Rattle.acpi.proofs.Legal.{either}
 use Rattle.acpi.specs.Acpi.{acpiSettle, freshAcpi}
+use Rattle.acpi.specs.Bit as bit
 use Rattle.acpi.specs.Fields.{raise, withCpu, withPm1sts, withSleeping}
 use Rattle.acpi.specs.Settle.{pending, wake}
 use Rattle.acpi.specs.declared.Acpi.{Acpi}
@@ -27,14 +28,14 @@ pending-raise a bits =
 
 -- a block with a pending status bit after settling
 abbrev pub awake : Acpi → Acpi
-awake a = withCpu (withSleeping (withPm1sts a (cond (a .sleeping) (bitOr (a .pm1sts) 0x8000) (a .pm1sts))) false) 0
+awake a = withCpu (withSleeping (withPm1sts a (cond (a .sleeping) (bitOr (a .pm1sts) bit.wakeSts) (a .pm1sts))) false) 0
 
 pub pending-awake : (a : Acpi) → pending a ≡ true → pending (awake a) ≡ true
 unfolding pending
 pending-awake a h = still (a .sleeping)
   where
-    still : (s : Bool) → pending (withPm1sts a (cond s (bitOr (a .pm1sts) 0x8000) (a .pm1sts))) ≡ true
-    still true = pending-raise a 0x8000 h
+    still : (s : Bool) → pending (withPm1sts a (cond s (bitOr (a .pm1sts) bit.wakeSts) (a .pm1sts))) ≡ true
+    still true = pending-raise a bit.wakeSts h
     still false = h
 
 settle-is : (a : Acpi) → acpiSettle a ≡ cond (pending (wake a)) (withCpu (wake a) 0) (wake a)
@@ -51,7 +52,7 @@ unfolding wake pending
 settle-pending a h = settle-is a ∙ pick (a .sleeping) refl
   where
     pick : (s : Bool) → a .sleeping ≡ s → cond (pending (wake a)) (withCpu (wake a) 0) (wake a) ≡ awake a
-    pick true e = rw (e, h, pending-raise (withSleeping a false) 0x8000 h)
+    pick true e = rw (e, h, pending-raise (withSleeping a false) bit.wakeSts h)
     pick false e = rw (e, h)
 
 -- settling such a block again changes nothing

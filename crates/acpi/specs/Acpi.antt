@@ -1,5 +1,5 @@
 -- The ACPI block as a whole: resets, range, accesses, events and settling. See docs/CHIP.md, "ACPI" and "Events".
-use Prim.Native.Nat.{ℕ, _%_, _^_}
+use Prim.Native.Nat.{ℕ, _%_}
 use mathlib.Core.Bool.{Bool, false, cond, _||_}
 use mathlib.Core.List.{List, [], _∷_}
 use lib.Dec.{eqb, leb, ltb}
@@ -9,12 +9,14 @@ use Rattle.access.specs.declared.Access.{Access}
 use Rattle.lists.specs.Tests.{allHold}
 use Rattle.mask.specs.Every.{allBelow}
 use Rattle.mask.specs.Mask.{hasBit, within}
-use Rattle.acpi.specs.Event.{pinLevel, ticked}
+use Rattle.acpi.specs.Bit as bit
+use Rattle.acpi.specs.Event.{pinLevel, ticked, timerSize}
 use Rattle.acpi.specs.Fields.{raise, withCpu}
 use Rattle.acpi.specs.Map.{legalMap}
+use Rattle.acpi.specs.Mask as mask
 use Rattle.acpi.specs.Registers.{registerRead, registerWrite, takes}
 use Rattle.acpi.specs.Settle.{sciOn, smiOn, wake}
-use Rattle.acpi.specs.Setup.{isSetupIndex}
+use Rattle.acpi.specs.Setup.{irqMax, irqReset, isSetupIndex}
 use Rattle.acpi.specs.declared.Acpi.{Acpi}
 
 -- ---- resets
@@ -32,7 +34,7 @@ resetState levels = record {
   gpe0sts = 0;
   gpe0en = 0;
   maps = replicate 8 0;
-  irq = 9;
+  irq = irqReset;
   timer = 0;
   levels = levels;
 }
@@ -55,14 +57,14 @@ mapInRange maps k = legalMap (getD maps k 0)
 -- GPE0_STS and GPE0_EN take all 16 bits
 abbrev pub rangeTests : Acpi → List Bool
 rangeTests a =
-    within 0x17 (a .pcnt)
+    within mask.pCnt (a .pcnt)
     ∷ isCpuState (a .cpu)
-    ∷ within 0x8F31 (a .pm1sts)
-    ∷ within 0x0721 (a .pm1en)
-    ∷ within 0x1C02 (a .pm1cnt)
+    ∷ within mask.pm1aSts (a .pm1sts)
+    ∷ within mask.pm1aEn (a .pm1en)
+    ∷ within mask.pm1aCnt (a .pm1cnt)
     ∷ isSetupIndex (a .setupidx)
-    ∷ leb (a .irq) 15
-    ∷ ltb (a .timer) (2 ^ 24)
+    ∷ leb (a .irq) irqMax
+    ∷ ltb (a .timer) timerSize
     ∷ allBelow 8 (mapInRange (a .maps))
     ∷ []
 
@@ -81,8 +83,10 @@ acpiAccess a offset x =
 unfoldable pub acpiEvent : Acpi → ℕ → ℕ → Acpi
 acpiEvent a kind operand =
     cond (eqb kind 1) (ticked a operand)
-    (cond (eqb kind 2) (pinLevel a (operand % 8) (hasBit 0x08 operand))
-    (cond (eqb kind 3) (raise a 0x0400) (cond (eqb kind 4) (raise a 0x0010) (cond (eqb kind 7) (raise a 0x0800) a))))
+    (cond (eqb kind 2) (pinLevel a (operand % 8) (hasBit bit.pinLevel operand))
+    (cond (eqb kind 3) (raise a bit.rtcSts)
+    (cond (eqb kind 4) (raise a bit.bmSts)
+    (cond (eqb kind 7) (raise a bit.pwrbtnorSts) a))))
 
 -- "After every event and access, in order: a sleeping chip with pending wakes and sets WAKE_STS (bit 15); [..] either [SCI
 -- or SMI] sets CPU state 0."

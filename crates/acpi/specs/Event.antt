@@ -4,9 +4,14 @@ use mathlib.Core.Bool.{Bool, false, cond}
 use lib.Bits.{bitOr}
 use lib.Dec.{eqb, ltb}
 use lib.ListN.{getD, set}
+use Rattle.acpi.specs.Bit as bit
 use Rattle.acpi.specs.Fields.{raise, withGpe0sts, withLevels, withTimer}
 use Rattle.acpi.specs.Map.{inDirection, isGpeTarget}
 use Rattle.acpi.specs.declared.Acpi.{Acpi}
+
+-- "The timer has 24 bits."
+abbrev pub timerSize : ℕ
+timerSize = 2 ^ 24
 
 -- "TMR_STS (bit 0) is set when it passes from FFFFFFh to 0": after at most 65,535 ticks, exactly if the timer is less than
 -- before
@@ -16,14 +21,14 @@ timerWraps before after = ltb after before
 -- n ticks; the law `ticks` in proofs/Ticks.antt says that this is the same as n single ticks
 unfoldable pub ticked : Acpi → ℕ → Acpi
 ticked a n =
-    cond (timerWraps (a .timer) ((a .timer + n) % 2 ^ 24)) (raise (withTimer a ((a .timer + n) % 2 ^ 24)) 0x0001)
-    (withTimer a ((a .timer + n) % 2 ^ 24))
+    cond (timerWraps (a .timer) ((a .timer + n) % timerSize)) (raise (withTimer a ((a .timer + n) % timerSize)) bit.tmrSts)
+    (withTimer a ((a .timer + n) % timerSize))
 
 -- sets the status bit that a map value selects, if it selects one
 unfoldable pub raiseMapped : Acpi → ℕ → Acpi
 raiseMapped a m =
-    cond (eqb (m % 256) 0x08) (raise a 0x0100)
-    (cond (eqb (m % 256) 0x09) (raise a 0x0200)
+    cond (eqb (m % 256) 0x08) (raise a bit.pwrbtnSts)
+    (cond (eqb (m % 256) 0x09) (raise a bit.slpbtnSts)
     (cond (isGpeTarget (m % 256)) (withGpe0sts a (bitOr (a .gpe0sts) (2 ^ (m % 256 - 0x10)))) a))
 
 -- "2 pin (0 to 15: bits 2 to 0 pin, bit 3 new level, which is stored; a change in the mapped direction sets the mapped bit, an

@@ -1,9 +1,13 @@
 pub mod Acpi
+pub mod Bit
 pub mod Event
 pub mod Fields
 pub mod Map
+pub mod Mask
+pub mod Offset
 pub mod Registers
 pub mod Saved
 pub mod Settle
 pub mod Setup
+pub mod SetupIndex
 pub mod Times

@@ -12,11 +12,23 @@ isGpeTarget low = leb 0x10 low && leb low 0x1F
 abbrev pub legalTarget : ℕ → Bool
 legalTarget low = eqb low 0x00 || eqb low 0x08 || eqb low 0x09 || isGpeTarget low
 
+-- "A map value is zero above bit 12"
+abbrev pub mapMax : ℕ
+mapMax = 0x1FFF
+
+-- "bits 9 to 11 zero"
+abbrev pub mapReserved : ℕ
+mapReserved = 0x0E00
+
+-- "bit 8 clear means rise, set means fall"
+abbrev pub mapFall : ℕ
+mapFall = 0x0100
+
 -- "A map value is zero above bit 12; [..] bit 8 clear means rise, set means fall; bit 12 is kept without effect;
 -- bits 9 to 11 zero."
 unfoldable pub legalMap : ℕ → Bool
-legalMap v = leb v 0x1FFF && eqb (bitAnd v 0x0E00) 0 && legalTarget (v % 256)
+legalMap v = leb v mapMax && eqb (bitAnd v mapReserved) 0 && legalTarget (v % 256)
 
 -- "a change in the mapped direction": "bit 8 clear means rise, set means fall"
 abbrev pub inDirection : ℕ → Bool → Bool → Bool
-inDirection m old new = cond (hasBit 0x0100 m) (old && not new) (not old && new)
+inDirection m old new = cond (hasBit mapFall m) (old && not new) (not old && new)

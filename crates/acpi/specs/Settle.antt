@@ -1,6 +1,7 @@
 -- Pending status bits, the outputs SCI and SMI, and waking up. See docs/CHIP.md, "Sleep, wake and settling".
 use mathlib.Core.Bool.{Bool, false, cond, not, _&&_, _||_}
 use Rattle.mask.specs.Mask.{hasBit}
+use Rattle.acpi.specs.Bit as bit
 use Rattle.acpi.specs.Fields.{raise, withSleeping}
 use Rattle.acpi.specs.declared.Acpi.{Acpi}
 
@@ -17,4 +18,4 @@ smiOn a = pending a && not (a .scien)
 
 -- "a sleeping chip with pending wakes and sets WAKE_STS (bit 15)"
 unfoldable pub wake : Acpi → Acpi
-wake a = cond (a .sleeping && pending a) (raise (withSleeping a false) 0x8000) a
+wake a = cond (a .sleeping && pending a) (raise (withSleeping a false) bit.wakeSts) a

@@ -1,28 +1,28 @@
 // The ACPI block as 45 bytes, and back. `state` calls it. See docs/STATE.md.
 ghost use mathlib.Core.Path.{_≡_};
-ghost use Prim.Native.Nat.{_<_};
+ghost use Prim.Native.Nat.{_+_, _<_};
 ghost use lib.ListN.{length};
 ghost use Rattle.little_endian.specs.Bytes.{twoAt, fourAt};
-ghost use Rattle.acpi.specs.Saved.{acpiBytes, acpiFrom, acpiSaved, mapsFrom, levelsFrom};
+ghost use Rattle.acpi.specs.Saved.{acpiBytes, acpiFrom, acpiSaved, acpiSize, mapsFrom, levelsFrom};
 use crate::Acpi;
 
 fn two_at(bytes: &[u8], at: usize) -> u16
-    requires { ⌜ length (now bytes) ≡ 45 ⌝ }
-    requires { ⌜ at < 44 ⌝ }
+    requires { ⌜ length (now bytes) ≡ acpiSize ⌝ }
+    requires { ⌜ at + 1 < acpiSize ⌝ }
     ensures { λ r. ⌜ r ≡ twoAt (now (bytes .entry)) at ⌝ }
 {
     little_endian::two(bytes[at], bytes[at + 1])
 }
 
 fn timer_from(bytes: &[u8]) -> u32
-    requires { ⌜ length (now bytes) ≡ 45 ⌝ }
+    requires { ⌜ length (now bytes) ≡ acpiSize ⌝ }
     ensures { λ r. ⌜ r ≡ fourAt (now (bytes .entry)) 33 ⌝ }
 {
     little_endian::four(bytes[33], bytes[34], bytes[35], bytes[36])
 }
 
 fn maps_from(bytes: &[u8]) -> [u16; 8]
-    requires { ⌜ length (now bytes) ≡ 45 ⌝ }
+    requires { ⌜ length (now bytes) ≡ acpiSize ⌝ }
     ensures { λ r. ⌜ r ≡ mapsFrom 8 16 (now (bytes .entry)) ⌝ }
 {
     [
@@ -38,7 +38,7 @@ fn maps_from(bytes: &[u8]) -> [u16; 8]
 }
 
 fn levels_from(bytes: &[u8]) -> [bool; 8]
-    requires { ⌜ length (now bytes) ≡ 45 ⌝ }
+    requires { ⌜ length (now bytes) ≡ acpiSize ⌝ }
     ensures { λ r. ⌜ r ≡ levelsFrom 8 37 (now (bytes .entry)) ⌝ }
 {
     [
@@ -119,7 +119,7 @@ impl Acpi {
     }
 
     pub fn from_bytes(bytes: &[u8]) -> Self
-        requires { ⌜ length (now bytes) ≡ 45 ⌝ }
+        requires { ⌜ length (now bytes) ≡ acpiSize ⌝ }
         ensures { λ r. ⌜ r ≡ acpiFrom (now (bytes .entry)) ⌝ }
     {
         let maps = maps_from(bytes);
@@ -144,7 +144,7 @@ impl Acpi {
 
     // Can these bytes be an ACPI block? The flags must be 0 or 1.
     pub fn is_saved(bytes: &[u8]) -> bool
-        requires { ⌜ length (now bytes) ≡ 45 ⌝ }
+        requires { ⌜ length (now bytes) ≡ acpiSize ⌝ }
         ensures { λ r. ⌜ r ≡ acpiSaved (now (bytes .entry)) ⌝ }
     {
         (bytes[2] < 2)

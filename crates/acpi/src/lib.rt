@@ -72,6 +72,31 @@ impl AccessResult {
 }
 
 impl Acpi {
+    // Offsets of the registers.
+    pub const P_CNT: u32 = 0;
+
+    pub const P_LVL2: u32 = 4;
+
+    pub const P_LVL3: u32 = 5;
+
+    pub const SMI_CMD: u32 = 6;
+
+    pub const PM1A_STS: u32 = 8;
+
+    pub const PM1A_EN: u32 = 10;
+
+    pub const PM1A_CNT: u32 = 12;
+
+    pub const SETUP_IDX: u32 = 14;
+
+    pub const GPE0_STS: u32 = 16;
+
+    pub const GPE0_EN: u32 = 18;
+
+    pub const SETUP_DATA: u32 = 20;
+
+    pub const TIMER: u32 = 24;
+    // Masks of the registers.
     pub const PCNT_MASK: u8 = 0x17;
 
     pub const PM1STS_MASK: u16 = 0x8F31;
@@ -80,7 +105,7 @@ impl Acpi {
 
     pub const PM1CNT_MASK: u16 = 0x1C02;
 
-    pub const ALL: u16 = 0xFFFF;
+    pub const ALL_BITS: u16 = 0xFFFF;
     // Bits of PM1a_STS.
     pub const TMR_STS: u16 = 0x0001;
 
@@ -101,16 +126,26 @@ impl Acpi {
     pub const SCI_EN: u16 = 0x0001;
     // Writing 1 to bit 13 of PM1a_CNT puts the chip to sleep.
     pub const SLP_EN: u32 = 0x2000;
-    // Map values: the largest value, bits 9 to 11 (must be 0), and bit 8 (1 for a falling edge).
-    pub const MAP_LAST: u32 = 0x1FFF;
+    // The values of SETUP_IDX: no register, the maps of pins 0 to 7, the global event, and the IRQ.
+    pub const SETUP_NONE: u16 = 0x00;
 
-    pub const MAP_ZERO: u32 = 0x0E00;
+    pub const SETUP_FIRST_MAP: u16 = 0x10;
+
+    pub const SETUP_LAST_MAP: u16 = 0x17;
+
+    pub const SETUP_GLOBAL_EVENT: u16 = 0x40;
+
+    pub const SETUP_IRQ: u16 = 0x41;
+    // Map values: the largest value, bits 9 to 11 (must be 0), and bit 8 (1 for a falling edge).
+    pub const MAP_MAX: u32 = 0x1FFF;
+
+    pub const MAP_RESERVED: u32 = 0x0E00;
 
     pub const MAP_FALL: u16 = 0x0100;
 
     pub const IRQ_RESET: u8 = 9;
 
-    pub const IRQ_LAST: u32 = 15;
+    pub const IRQ_MAX: u32 = 15;
 
     pub const TIMER_SIZE: u32 = 0x0100_0000;
     // The kinds of events that change this block.
@@ -174,7 +209,7 @@ impl Acpi {
             & mask::within16(Acpi::PM1EN_MASK, self.pm1en)
             & mask::within16(Acpi::PM1CNT_MASK, self.pm1cnt)
             & setup::is_setup_index(mask::wide16(self.setupidx))
-            & (mask::wide8(self.irq) <= Acpi::IRQ_LAST)
+            & (mask::wide8(self.irq) <= Acpi::IRQ_MAX)
             & (self.timer < Acpi::TIMER_SIZE)
             & maps_in_range(maps)
     }
@@ -305,18 +340,18 @@ fn takes(offset: u32, width: u32) -> bool
     ensures { λ r. ⌜ r ≡ takes offset width ⌝ }
 {
     match offset {
-        0 => width == 4,
-        4 => width == 1,
-        5 => width == 1,
-        6 => width == 1,
-        8 => width == 2,
-        10 => width == 2,
-        12 => width == 2,
-        14 => width == 2,
-        16 => width == 2,
-        18 => width == 2,
-        20 => width == 4,
-        24 => width == 4,
+        Acpi::P_CNT => width == 4,
+        Acpi::P_LVL2 => width == 1,
+        Acpi::P_LVL3 => width == 1,
+        Acpi::SMI_CMD => width == 1,
+        Acpi::PM1A_STS => width == 2,
+        Acpi::PM1A_EN => width == 2,
+        Acpi::PM1A_CNT => width == 2,
+        Acpi::SETUP_IDX => width == 2,
+        Acpi::GPE0_STS => width == 2,
+        Acpi::GPE0_EN => width == 2,
+        Acpi::SETUP_DATA => width == 4,
+        Acpi::TIMER => width == 4,
         _ => false,
     }
 }

@@ -8,7 +8,7 @@ ghost use Rattle.acpi.specs.Map.{inDirection, legalMap, legalTarget};
 pub fn is_legal(value: u32) -> bool
     ensures { λ r. ⌜ r ≡ legalMap value ⌝ }
 {
-    (value <= Acpi::MAP_LAST) & (value & Acpi::MAP_ZERO == 0) & is_legal_target(value % 256)
+    (value <= Acpi::MAP_MAX) & (value & Acpi::MAP_RESERVED == 0) & is_legal_target(value % 256)
 }
 
 // The low byte of a map value selects no bit, bit 8 or 9 of PM1a_STS, or a bit of GPE0_STS.

@@ -29,14 +29,14 @@ impl Acpi {
         ensures { λ r. ⌜ r ≡ registerValue self offset ⌝ }
     {
         match offset {
-            0 => self.pcnt as u32,
-            8 => self.pm1sts as u32,
-            10 => self.pm1en as u32,
-            12 => self.control_read(),
-            14 => self.setupidx as u32,
-            16 => self.gpe0sts as u32,
-            18 => self.gpe0en as u32,
-            24 => self.timer,
+            Acpi::P_CNT => self.pcnt as u32,
+            Acpi::PM1A_STS => self.pm1sts as u32,
+            Acpi::PM1A_EN => self.pm1en as u32,
+            Acpi::PM1A_CNT => self.control_read(),
+            Acpi::SETUP_IDX => self.setupidx as u32,
+            Acpi::GPE0_STS => self.gpe0sts as u32,
+            Acpi::GPE0_EN => self.gpe0en as u32,
+            Acpi::TIMER => self.timer,
             _ => 0,
         }
     }
@@ -46,21 +46,21 @@ impl Acpi {
         ensures { λ r. ⌜ result (r .answer) (r .block) ≡ registerRead self offset ⌝ }
     {
         match offset {
-            4 => {
+            Acpi::P_LVL2 => {
                 self.cpu = 2;
                 AccessResult {
                     answer: Answer::done(0),
                     block: self,
                 }
             }
-            5 => {
+            Acpi::P_LVL3 => {
                 self.cpu = 3;
                 AccessResult {
                     answer: Answer::done(0),
                     block: self,
                 }
             }
-            20 => AccessResult {
+            Acpi::SETUP_DATA => AccessResult {
                 answer: self.setup_read(),
                 block: self,
             },
@@ -105,30 +105,30 @@ impl Acpi {
         ensures { λ r. ⌜ result (r .answer) (r .block) ≡ registerWrite self offset value ⌝ }
     {
         match offset {
-            0 => {
+            Acpi::P_CNT => {
                 self.pcnt = mask::masked8(value, Acpi::PCNT_MASK);
                 AccessResult::status(Answer::DONE, self)
             }
-            6 => self.command_write(value),
-            8 => {
-                self.pm1sts = mask::cleared16(self.pm1sts, mask::masked16(value, Acpi::ALL));
+            Acpi::SMI_CMD => self.command_write(value),
+            Acpi::PM1A_STS => {
+                self.pm1sts = mask::cleared16(self.pm1sts, mask::masked16(value, Acpi::ALL_BITS));
                 AccessResult::status(Answer::DONE, self)
             }
-            10 => {
+            Acpi::PM1A_EN => {
                 self.pm1en = mask::masked16(value, Acpi::PM1EN_MASK);
                 AccessResult::status(Answer::DONE, self)
             }
-            12 => self.control_write(value),
-            14 => self.setup_index_write(value),
-            16 => {
-                self.gpe0sts = mask::cleared16(self.gpe0sts, mask::masked16(value, Acpi::ALL));
+            Acpi::PM1A_CNT => self.control_write(value),
+            Acpi::SETUP_IDX => self.setup_index_write(value),
+            Acpi::GPE0_STS => {
+                self.gpe0sts = mask::cleared16(self.gpe0sts, mask::masked16(value, Acpi::ALL_BITS));
                 AccessResult::status(Answer::DONE, self)
             }
-            18 => {
-                self.gpe0en = mask::masked16(value, Acpi::ALL);
+            Acpi::GPE0_EN => {
+                self.gpe0en = mask::masked16(value, Acpi::ALL_BITS);
                 AccessResult::status(Answer::DONE, self)
             }
-            20 => self.setup_write(value),
+            Acpi::SETUP_DATA => self.setup_write(value),
             _ => AccessResult::status(Answer::BLOCKED, self),
         }
     }

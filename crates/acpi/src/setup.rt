@@ -19,7 +19,10 @@ use crate::map;
 pub fn is_setup_index(index: u32) -> bool
     ensures { λ r. ⌜ r ≡ isSetupIndex index ⌝ }
 {
-    (index == 0x00) | ((0x10 <= index) & (index <= 0x17)) | (index == 0x40) | (index == 0x41)
+    (index == Acpi::SETUP_NONE as u32)
+        | ((Acpi::SETUP_FIRST_MAP as u32 <= index) & (index <= Acpi::SETUP_LAST_MAP as u32))
+        | (index == Acpi::SETUP_GLOBAL_EVENT as u32)
+        | (index == Acpi::SETUP_IRQ as u32)
 }
 
 impl Acpi {
@@ -38,14 +41,14 @@ impl Acpi {
     {
         let index = self.setupidx;
         match index {
-            0x00 => Answer::done(0),
-            0x10..=0x17 => {
+            Acpi::SETUP_NONE => Answer::done(0),
+            Acpi::SETUP_FIRST_MAP..=Acpi::SETUP_LAST_MAP => {
                 let maps = self.maps;
-                let pin = (index - 0x10) as usize;
+                let pin = (index - Acpi::SETUP_FIRST_MAP) as usize;
                 Answer::done(mask::wide16(maps[pin]))
             }
-            0x40 => Answer::done(0),
-            0x41 => Answer::done(mask::wide8(self.irq)),
+            Acpi::SETUP_GLOBAL_EVENT => Answer::done(0),
+            Acpi::SETUP_IRQ => Answer::done(mask::wide8(self.irq)),
             _ => Answer::status_only(Answer::UNDEFINED),
         }
     }
@@ -64,7 +67,7 @@ impl Acpi {
     fn irq_write(mut self, value: u32) -> AccessResult
         ensures { λ r. ⌜ result (r .answer) (r .block) ≡ irqWrite self value ⌝ }
     {
-        if value <= Acpi::IRQ_LAST {
+        if value <= Acpi::IRQ_MAX {
             self.irq = value as u8;
             return AccessResult::status(Answer::DONE, self);
         }
@@ -76,10 +79,16 @@ impl Acpi {
     {
         let index = self.setupidx;
         match index {
-            0x00 => AccessResult::status(Answer::IGNORED, self),
-            0x10..=0x17 => self.map_write((index - 0x10) as usize, value),
-            0x40 => AccessResult::status(Answer::DONE, self.raise(Acpi::GBL_STS)),
-            0x41 => self.irq_write(value),
+            Acpi::SETUP_NONE => AccessResult::status(Answer::IGNORED, self),
+            Acpi::SETUP_FIRST_MAP..=Acpi::SETUP_LAST_MAP => self.map_write(
+                (index - Acpi::SETUP_FIRST_MAP) as usize,
+                value,
+            ),
+            Acpi::SETUP_GLOBAL_EVENT => AccessResult::status(
+                Answer::DONE,
+                self.raise(Acpi::GBL_STS),
+            ),
+            Acpi::SETUP_IRQ => self.irq_write(value),
             _ => AccessResult::status(Answer::UNDEFINED, self),
         }
     }

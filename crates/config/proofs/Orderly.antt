@@ -9,11 +9,16 @@ use Rattle.mask.proofs.Branch.{branch, branch-on}
 use Rattle.mask.specs.Mask.{hasBit}
 use Rattle.config.specs.Config.{
   configAccess,
+  controlLock,
   controlWrite,
   dataWrite,
   indexWrite,
+  lockValue,
   registerWrite,
+  runtimeDevice,
+  unlockValue,
 }
+use Rattle.config.specs.Index as register
 use Rattle.config.specs.declared.Config.{Config}
 
 module _ (g : Config) (w : Bool) where
@@ -24,26 +29,26 @@ module _ (g : Config) (w : Bool) (v : ℕ) where
   index-write : Orderly g w (indexWrite g v)
   unfolding indexWrite
   index-write =
-      on g w (g .unlocked) (on g w (eqb v 0xAA) write-done write-done) (on g w (eqb v 0x55) write-done kept)
+      on g w (g .unlocked) (on g w (eqb v lockValue) write-done write-done) (on g w (eqb v unlockValue) write-done kept)
 
   control-write : Orderly g w (controlWrite g v)
   unfolding controlWrite
-  control-write = on g w (hasBit 0x01 (g .control)) kept write-done
+  control-write = on g w (hasBit controlLock (g .control)) kept write-done
 
   register-write : Orderly g w (registerWrite g v)
   unfolding registerWrite
   register-write =
-      on g w (eqb (g .index) 0x30) write-done
-      (on g w (eqb (g .index) 0x60) write-done
-      (on g w (eqb (g .index) 0x61) write-done
-      (on g w (eqb (g .index) 0x62) write-done
-      (on g w (eqb (g .index) 0x63) write-done (on g w (eqb (g .index) 0xF2) control-write kept)))))
+      on g w (eqb (g .index) register.activate) write-done
+      (on g w (eqb (g .index) register.runtimeBaseHigh) write-done
+      (on g w (eqb (g .index) register.runtimeBaseLow) write-done
+      (on g w (eqb (g .index) register.keyBaseHigh) write-done
+      (on g w (eqb (g .index) register.keyBaseLow) write-done (on g w (eqb (g .index) register.keyControl) control-write kept)))))
 
   data-write : Orderly g w (dataWrite g v)
   unfolding dataWrite
   data-write =
       on g w (g .unlocked)
-      (on g w (eqb (g .index) 0x07) write-done (on g w (eqb (g .number) 0x0A) register-write kept))
+      (on g w (eqb (g .index) register.deviceNumber) write-done (on g w (eqb (g .number) runtimeDevice) register-write kept))
       kept
 
 pub config-orderly : (g : Config) (offset : ℕ) (x : Access) → Orderly g (x .write) (configAccess g offset x)

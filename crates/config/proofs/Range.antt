@@ -15,12 +15,18 @@ use Rattle.config.specs.Config.{
   configAccess,
   configInRange,
   configReset,
+  controlLock,
   controlWrite,
   dataWrite,
   freshConfig,
   indexWrite,
+  lockValue,
   registerWrite,
+  runtimeDevice,
+  unlockValue,
 }
+use Rattle.config.specs.Index as register
+use Rattle.config.specs.Mask as mask
 use Rattle.config.specs.declared.Config.{Config}
 
 pub fresh-in-range : configInRange freshConfig ≡ true
@@ -37,31 +43,36 @@ ResultInRange r = configInRange (r .block) ≡ true
 module _ (g : Config) (h : configInRange g ≡ true) where
   index-write : (v : ℕ) → ResultInRange (indexWrite g v)
   unfolding indexWrite configInRange
-  index-write v = branch ResultInRange (g .unlocked) (branch ResultInRange (eqb v 0xAA) h h) (branch ResultInRange (eqb v 0x55) h h)
+  index-write v =
+      branch ResultInRange (g .unlocked) (branch ResultInRange (eqb v lockValue) h h)
+      (branch ResultInRange (eqb v unlockValue) h h)
 
   control-write : (v : ℕ) → ResultInRange (controlWrite g v)
   unfolding controlWrite configInRange
   control-write v =
-      branch ResultInRange (hasBit 0x01 (g .control)) h
-      (and-both (within 0x01 (g .activate)) (within 0x07 (bitAnd v 0x07))
-      (and-left (within 0x01 (g .activate)) (within 0x07 (g .control)) h) (within-masked 0x07 v))
+      branch ResultInRange (hasBit controlLock (g .control)) h
+      (and-both (within mask.activate (g .activate)) (within mask.keyControl (bitAnd v mask.keyControl))
+      (and-left (within mask.activate (g .activate)) (within mask.keyControl (g .control)) h) (within-masked mask.keyControl v))
 
   register-write : (v : ℕ) → ResultInRange (registerWrite g v)
   unfolding registerWrite configInRange
   register-write v =
-      branch ResultInRange (eqb (g .index) 0x30)
-      (and-both (within 0x01 (bitAnd v 0x01)) (within 0x07 (g .control)) (within-masked 0x01 v)
-      (and-right (within 0x01 (g .activate)) (within 0x07 (g .control)) h))
-      (branch ResultInRange (eqb (g .index) 0x60) h
-      (branch ResultInRange (eqb (g .index) 0x61) h
-      (branch ResultInRange (eqb (g .index) 0x62) h
-      (branch ResultInRange (eqb (g .index) 0x63) h (branch ResultInRange (eqb (g .index) 0xF2) (control-write v) h)))))
+      branch ResultInRange (eqb (g .index) register.activate)
+      (and-both (within mask.activate (bitAnd v mask.activate)) (within mask.keyControl (g .control))
+      (within-masked mask.activate v)
+      (and-right (within mask.activate (g .activate)) (within mask.keyControl (g .control)) h))
+      (branch ResultInRange (eqb (g .index) register.runtimeBaseHigh) h
+      (branch ResultInRange (eqb (g .index) register.runtimeBaseLow) h
+      (branch ResultInRange (eqb (g .index) register.keyBaseHigh) h
+      (branch ResultInRange (eqb (g .index) register.keyBaseLow) h
+      (branch ResultInRange (eqb (g .index) register.keyControl) (control-write v) h)))))
 
   data-write : (v : ℕ) → ResultInRange (dataWrite g v)
   unfolding dataWrite configInRange
   data-write v =
       branch ResultInRange (g .unlocked)
-      (branch ResultInRange (eqb (g .index) 0x07) h (branch ResultInRange (eqb (g .number) 0x0A) (register-write v) h))
+      (branch ResultInRange (eqb (g .index) register.deviceNumber) h
+      (branch ResultInRange (eqb (g .number) runtimeDevice) (register-write v) h))
       h
 
 pub access-in-range :

@@ -20,11 +20,15 @@ use Rattle.config.specs.Fields.{
   withUnlocked,
 }
 use Rattle.config.specs.Index as register
+use Rattle.config.specs.Mask as mask
 use Rattle.config.specs.declared.Config.{Config}
 
 -- "Reset 0: configuration locked, its index, device number, bases and activate 0, key control 04h."
+abbrev pub controlReset : ℕ
+controlReset = 0x04
+
 abbrev pub freshConfig : Config
-freshConfig = config false 0 0 0 0 0 0x04
+freshConfig = config false 0 0 0 0 0 controlReset
 
 -- every reset resets the whole configuration
 abbrev pub configReset : Config → ℕ → Config
@@ -33,22 +37,28 @@ configReset g level = freshConfig
 -- "State in range: every register within its mask": activate (mask 01h) and key control (mask 07h); the others take any
 -- value
 unfoldable pub configInRange : Config → Bool
-configInRange g = within 0x01 (g .activate) && within 0x07 (g .control)
+configInRange g = within mask.activate (g .activate) && within mask.keyControl (g .control)
 
 -- "The bases used are masked with FF80h and FFE0h (ours)."
 abbrev pub runtimeBase : Config → ℕ
-runtimeBase g = bitAnd (g .«runtime_base») 0xFF80
+runtimeBase g = bitAnd (g .«runtime_base») mask.runtimeBase
 
 abbrev pub keyBase : Config → ℕ
-keyBase g = bitAnd (g .«key_base») 0xFFE0
+keyBase g = bitAnd (g .«key_base») mask.keyBase
 
 -- ---- the index port. "Locked: 55h written to 002Eh unlocks; any other write, any read, and port 002Fh have status 1.
 -- Unlocked: AAh written to 002Eh locks; any other value, 55h too, becomes the index; a read gives the index."
+abbrev pub unlockValue : ℕ
+unlockValue = 0x55
+
+abbrev pub lockValue : ℕ
+lockValue = 0xAA
+
 unfoldable pub indexWrite : Config → ℕ → Result Config
 indexWrite g v =
     cond (g .unlocked)
-    (cond (eqb v 0xAA) (status 0 (withUnlocked g false)) (status 0 (withIndex g v)))
-    (cond (eqb v 0x55) (status 0 (withUnlocked g true)) (status 1 g))
+    (cond (eqb v lockValue) (status 0 (withUnlocked g false)) (status 0 (withIndex g v)))
+    (cond (eqb v unlockValue) (status 0 (withUnlocked g true)) (status 1 g))
 
 unfoldable pub indexRead : Config → Answer
 indexRead g = cond (g .unlocked) (done (g .index)) (statusOnly 1)
@@ -69,12 +79,15 @@ registerRead g =
     (cond (eqb (g .index) register.keyControl) (done (g .control)) (statusOnly 4))))))
 
 -- "While bit 0 is set every write to F2h has status 2. A write that sets bit 0 stores bits 2 and 1 as well."
+abbrev pub controlLock : ℕ
+controlLock = 0x01
+
 unfoldable pub controlWrite : Config → ℕ → Result Config
-controlWrite g v = cond (hasBit 0x01 (g .control)) (status 2 g) (status 0 (withControl g (bitAnd v 0x07)))
+controlWrite g v = cond (hasBit controlLock (g .control)) (status 2 g) (status 0 (withControl g (bitAnd v mask.keyControl)))
 
 unfoldable pub registerWrite : Config → ℕ → Result Config
 registerWrite g v =
-    cond (eqb (g .index) register.activate) (status 0 (withActivate g (bitAnd v 0x01)))
+    cond (eqb (g .index) register.activate) (status 0 (withActivate g (bitAnd v mask.activate)))
     (cond (eqb (g .index) register.runtimeBaseHigh) (status 0 (withRuntimeBase g (withHigh (g .«runtime_base») v)))
     (cond (eqb (g .index) register.runtimeBaseLow) (status 0 (withRuntimeBase g (withLow (g .«runtime_base») v)))
     (cond (eqb (g .index) register.keyBaseHigh) (status 0 (withKeyBase g (withHigh (g .«key_base») v)))

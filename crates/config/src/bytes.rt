@@ -4,7 +4,7 @@ use super::ports::high;
 use super::ports::low;
 ghost use mathlib.Core.Path.{_≡_};
 ghost use lib.ListN.{length};
-ghost use Rattle.config.specs.Saved.{configBytes, configFrom, configSaved};
+ghost use Rattle.config.specs.Saved.{configBytes, configFrom, configSaved, configSize};
 
 impl Config {
     pub const SIZE: usize = 9;
@@ -26,7 +26,7 @@ impl Config {
     }
 
     pub fn from_bytes(bytes: &[u8]) -> Self
-        requires { ⌜ length (now bytes) ≡ 9 ⌝ }
+        requires { ⌜ length (now bytes) ≡ configSize ⌝ }
         ensures { λ r. ⌜ r ≡ configFrom (now (bytes .entry)) ⌝ }
     {
         Config {
@@ -42,7 +42,7 @@ impl Config {
 
     // Can these bytes be a configuration? The flag must be 0 or 1.
     pub fn is_saved(bytes: &[u8]) -> bool
-        requires { ⌜ length (now bytes) ≡ 9 ⌝ }
+        requires { ⌜ length (now bytes) ≡ configSize ⌝ }
         ensures { λ r. ⌜ r ≡ configSaved (now (bytes .entry)) ⌝ }
     {
         bytes[0] < 2

@@ -58,7 +58,7 @@ impl Config {
     pub const KEY_CONTROL: u8 = 0xF2;
 
     // The device number that all registers except 07h require.
-    pub const DEVICE: u8 = 0x0A;
+    pub const RUNTIME_DEVICE: u8 = 0x0A;
 
     pub const ACTIVATE_MASK: u8 = 0x01;
 

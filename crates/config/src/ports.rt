@@ -53,7 +53,7 @@ impl Config {
                 self.number = value;
                 return self.status(Answer::DONE);
             }
-            if self.number == Config::DEVICE {
+            if self.number == Config::RUNTIME_DEVICE {
                 return self.register_write(value);
             }
             return self.status(Answer::ABSENT);
@@ -68,7 +68,7 @@ impl Config {
             if self.index == Config::DEVICE_NUMBER {
                 return done(self.number);
             }
-            if self.number == Config::DEVICE {
+            if self.number == Config::RUNTIME_DEVICE {
                 return self.register_read();
             }
             return Answer::status_only(Answer::ABSENT);

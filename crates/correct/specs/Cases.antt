@@ -23,7 +23,7 @@ use Rattle.config.specs.Fields.{
 }
 use Rattle.config.specs.declared.Config.{Config}
 use Rattle.mask.specs.Mask.{hasBit}
-use Rattle.monitor.specs.Monitor.{freshMonitor, lockSet, register, stored}
+use Rattle.monitor.specs.Monitor.{freshMonitor, lockSet, register, withRegister}
 use Rattle.monitor.specs.declared.Monitor.{Monitor}
 use Rattle.device.specs.Device.{freshDevice, withAcpi, withConfig, withMonitor}
 use Rattle.device.specs.Event.{applyEvent}
@@ -97,7 +97,7 @@ watched m = withMonitor (configured (withRuntimeBase (withActivate freshConfig 0
 
 -- Lock is bit 1 of 40h
 abbrev lockedMonitor : Device
-lockedMonitor = watched (stored (stored freshMonitor 0x40 0x02) 0x83 0x03)
+lockedMonitor = watched (withRegister (withRegister freshMonitor 0x40 0x02) 0x83 0x03)
 
 -- a write to a monitor register: the index, then the data
 abbrev monitorWrite : ℕ → ℕ → AccessResult

@@ -6,12 +6,12 @@ use Rattle.access.proofs.Block.{Orderly, kept, read-kept, write-done}
 use Rattle.access.specs.declared.Access.{Access}
 use Rattle.mask.proofs.Branch.{branch, branch-on}
 use Rattle.mask.specs.Mask.{hasBit}
-use Rattle.key.specs.Key.{keyAccess, keyWrite}
+use Rattle.key.specs.Key.{keyAccess, keyWrite, writeLock}
 use Rattle.key.specs.declared.Key.{Key}
 
 write-orderly : (k : Key) (control offset v : ℕ) {w : Bool} → Orderly k w (keyWrite k control offset v)
 unfolding keyWrite
-write-orderly k control offset v {w} = branch (Orderly k w) (hasBit 0x04 control) kept write-done
+write-orderly k control offset v {w} = branch (Orderly k w) (hasBit writeLock control) kept write-done
 
 pub key-orderly : (k : Key) (control offset : ℕ) (x : Access) → Orderly k (x .write) (keyAccess k control offset x)
 unfolding keyAccess

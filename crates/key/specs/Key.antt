@@ -8,23 +8,33 @@ use Rattle.access.specs.declared.Answer.{Answer}
 use Rattle.access.specs.Block.{Result, result, status, takesByte}
 use Rattle.access.specs.Status.{done, statusOnly}
 use Rattle.mask.specs.Mask.{hasBit}
+use Rattle.key.specs.Saved.{keySize}
 use Rattle.key.specs.declared.Key.{Key}
 
 abbrev pub freshKey : Key
-freshKey = record { bytes = replicate 32 0 }
+freshKey = record { bytes = replicate keySize 0 }
 
 -- "Reset 3 also key bytes [..] 0"
-abbrev pub keyReset : Key → ℕ → Key
-keyReset k level = cond (ltb level 3) k freshKey
+abbrev pub vbatReset : ℕ
+vbatReset = 3
 
--- "Key control: bit 2 write-lock, bit 1 read-lock, bit 0 lock. [..] A key read under read-lock and a key write under
--- write-lock have status 2."
+abbrev pub keyReset : Key → ℕ → Key
+keyReset k level = cond (ltb level vbatReset) k freshKey
+
+-- "Key control: bit 2 write-lock, bit 1 read-lock"
+abbrev pub readLock : ℕ
+readLock = 0x02
+
+abbrev pub writeLock : ℕ
+writeLock = 0x04
+
+-- "A key read under read-lock and a key write under write-lock have status 2."
 unfoldable pub keyRead : Key → ℕ → ℕ → Answer
-keyRead k control offset = cond (hasBit 0x02 control) (statusOnly 2) (done (getD (k .bytes) offset 0))
+keyRead k control offset = cond (hasBit readLock control) (statusOnly 2) (done (getD (k .bytes) offset 0))
 
 unfoldable pub keyWrite : Key → ℕ → ℕ → ℕ → Result Key
 keyWrite k control offset v =
-    cond (hasBit 0x04 control) (status 2 k) (status 0 (record { bytes = set (k .bytes) offset v }))
+    cond (hasBit writeLock control) (status 2 k) (status 0 (record { bytes = set (k .bytes) offset v }))
 
 -- an access to the key byte at an offset; `control` is key control, which belongs to the configuration
 unfoldable pub keyAccess : Key → ℕ → ℕ → Access → Result Key

@@ -7,7 +7,7 @@ ghost use Prim.Native.Nat.{_%_, _<_};
 ghost use lib.ListN.{length};
 ghost use Rattle.access.specs.Block.{result, status};
 ghost use Rattle.key.specs.Key.{freshKey, keyReset, keyRead, keyWrite, keyAccess};
-ghost use Rattle.key.specs.Saved.{keyBytes, keyFrom};
+ghost use Rattle.key.specs.Saved.{keyBytes, keyFrom, keySize};
 
 pub struct Key {
     pub bytes: [u8; 32],
@@ -47,7 +47,7 @@ impl Key {
 
     // An access to the key byte at an offset. `control` is key control.
     pub fn access(self, control: u8, offset: u32, access: Access) -> AccessResult
-        requires { ⌜ offset < 32 ⌝ }
+        requires { ⌜ offset < keySize ⌝ }
         ensures { λ r. ⌜ result (r .answer) (r .block) ≡ keyAccess self control offset access ⌝ }
     {
         if !access::takes_byte(access.width) {
@@ -64,7 +64,7 @@ impl Key {
     }
 
     fn read(self, control: u8, at: usize) -> Answer
-        requires { ⌜ at < 32 ⌝ }
+        requires { ⌜ at < keySize ⌝ }
         ensures { λ r. ⌜ r ≡ keyRead self control at ⌝ }
     {
         if mask::has8(control, Key::READ_LOCK) {
@@ -74,7 +74,7 @@ impl Key {
     }
 
     fn write(mut self, control: u8, at: usize, value: u8) -> AccessResult
-        requires { ⌜ at < 32 ⌝ }
+        requires { ⌜ at < keySize ⌝ }
         ensures { λ r. ⌜ result (r .answer) (r .block) ≡ keyWrite self control at value ⌝ }
     {
         if mask::has8(control, Key::WRITE_LOCK) {
@@ -101,7 +101,7 @@ impl Key {
     }
 
     pub fn from_bytes(bytes: &[u8]) -> Self
-        requires { ⌜ length (now bytes) ≡ 32 ⌝ }
+        requires { ⌜ length (now bytes) ≡ keySize ⌝ }
         ensures { λ r. ⌜ r ≡ keyFrom (now (bytes .entry)) ⌝ }
     {
         let mut key = [0u8; 32];

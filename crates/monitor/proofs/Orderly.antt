@@ -14,7 +14,7 @@ use Rattle.monitor.specs.Monitor.{
   monitorAccess,
   writeAs,
 }
-use Rattle.monitor.specs.Table.{absent, kindOf, lock, lockable, readOnly, unlocked, write1Clears}
+use Rattle.monitor.specs.Table.{absent, kindOf, lock, lockable, readOnly, neverLocked, write1Clears}
 use Rattle.monitor.specs.declared.Monitor.{Monitor}
 
 module _ (m : Monitor) where
@@ -29,7 +29,7 @@ module _ (m : Monitor) where
       (branch (Orderly m true) (eqb kind readOnly) kept
       (branch (Orderly m true) (eqb kind lockable) (lockable-write i _)
       (branch (Orderly m true) (eqb kind write1Clears) write-done
-      (branch (Orderly m true) (eqb kind unlocked) write-done kept))))
+      (branch (Orderly m true) (eqb kind neverLocked) write-done kept))))
 
   data-read : Orderly m false (dataRead m)
   unfolding dataRead

@@ -17,6 +17,7 @@ use Rattle.mask.proofs.Mask.{within-and, within-masked, within-or}
 use Rattle.mask.proofs.Store.{all-stored}
 use Rattle.mask.specs.Mask.{cleared, within}
 use Rattle.monitor.proofs.Table.{map-at, reset-within, slot-below, stored-at-slot}
+use Rattle.monitor.specs.Index as at
 use Rattle.monitor.specs.Monitor.{
   dataRead,
   freshMonitor,
@@ -27,8 +28,8 @@ use Rattle.monitor.specs.Monitor.{
   monitorInRange,
   monitorReset,
   register,
+  withRegister,
   withSensors,
-  stored,
   writeAs,
 }
 use Rattle.monitor.specs.Table.{
@@ -41,7 +42,7 @@ use Rattle.monitor.specs.Table.{
   resetOf,
   slotOf,
   storedIndices,
-  unlocked,
+  neverLocked,
   write1Clears,
 }
 use Rattle.monitor.specs.declared.Monitor.{Monitor}
@@ -68,14 +69,14 @@ module _ (m : Monitor) (h : monitorInRange m ≡ true) where
         rw (stored-at-slot i s) at (all-at 12 (λ k. within (maskOf (getD storedIndices k 0)) (getD (m .registers) k 0)) h
         (slotOf i) (slot-below i s))
 
-    stored-in-range : (v : ℕ) → within (maskOf i) v ≡ true → monitorInRange (stored m i v) ≡ true
-    stored-in-range v k =
+    with-register-in-range : (v : ℕ) → within (maskOf i) v ≡ true → monitorInRange (withRegister m i v) ≡ true
+    with-register-in-range v k =
         all-stored 12 (λ k. within (maskOf (getD storedIndices k 0))) (m .registers) (slotOf i) v
         (rw (stored-at-slot i s) k) h
 
     lockable-in-range : (v : ℕ) → within (maskOf i) v ≡ true → ResultInRange (lockableWrite m i v)
     unfolding lockableWrite
-    lockable-in-range v k = branch ResultInRange (lockSet m) h (stored-in-range v k)
+    lockable-in-range v k = branch ResultInRange (lockSet m) h (with-register-in-range v k)
 
   module _ (i v : ℕ) where
     masked : within (maskOf i) (bitAnd v (maskOf i)) ≡ true
@@ -92,10 +93,10 @@ module _ (m : Monitor) (h : monitorInRange m ≡ true) where
         (branch-on ResultInRange (eqb kind lockable)
         (λ t. lockable-in-range i (changes lockable t (omega arith)) (bitAnd v (maskOf i)) masked)
         (λ _. branch-on ResultInRange (eqb kind write1Clears)
-        (λ t. stored-in-range i (changes write1Clears t (omega arith)) (cleared 0xFF (register m i) v)
+        (λ t. with-register-in-range i (changes write1Clears t (omega arith)) (cleared 0xFF (register m i) v)
         (within-and (maskOf i) (register m i) (0xFF - v) (register-within i (changes write1Clears t (omega arith)))))
-        (λ _. branch-on ResultInRange (eqb kind unlocked)
-        (λ t. stored-in-range i (changes unlocked t (omega arith)) (bitAnd v (maskOf i)) masked)
+        (λ _. branch-on ResultInRange (eqb kind neverLocked)
+        (λ t. with-register-in-range i (changes neverLocked t (omega arith)) (bitAnd v (maskOf i)) masked)
         (λ _. h)))))
       where
         changes : (k : ℕ) → eqb kind k ≡ true → readOnly < k → readOnly < kindOf i
@@ -116,7 +117,7 @@ module _ (m : Monitor) (h : monitorInRange m ≡ true) where
   pub event-in-range : (kind operand : ℕ) → monitorInRange (monitorEvent m kind operand) ≡ true
   event-in-range kind operand =
       branch (λ n. monitorInRange n ≡ true) (eqb kind 5)
-      (stored-in-range 0x83 (omega arith) (bitOr (register m 0x83) (operand % 4))
-      (within-or 0x03 (register m 0x83) (operand % 4) (register-within 0x83 (omega arith))
+      (with-register-in-range at.voltageStatus (omega arith) (bitOr (register m at.voltageStatus) (operand % 4))
+      (within-or 0x03 (register m at.voltageStatus) (operand % 4) (register-within at.voltageStatus (omega arith))
       (rw (← (and-mask operand 2)) (within-masked 0x03 operand))))
       h

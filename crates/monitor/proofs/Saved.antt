@@ -14,7 +14,7 @@ use Rattle.lists.specs.Slice.{slice}
 use Rattle.mask.proofs.Every.{all-at}
 use Rattle.monitor.proofs.Table.{map-at}
 use Rattle.monitor.specs.Monitor.{dataRead, registerOf, withIndex}
-use Rattle.monitor.specs.Saved.{monitorBytes, monitorFrom, monitorSaved, savedByte}
+use Rattle.monitor.specs.Saved.{monitorBytes, monitorFrom, monitorSaved, monitorSize, savedByte}
 use Rattle.monitor.specs.Table.{absent, kindOf, listedIndices, readOnlyIndices, resetOf}
 use Rattle.monitor.specs.declared.Monitor.{Monitor}
 
@@ -22,7 +22,7 @@ use Rattle.monitor.specs.declared.Monitor.{Monitor}
 pub record Typed (m : Monitor) : Type 0 where
   pub registers : length (m .registers) ≡ 12
 
-pub bytes-length : (m : Monitor) → length (monitorBytes m) ≡ 20
+pub bytes-length : (m : Monitor) → length (monitorBytes m) ≡ monitorSize
 bytes-length m = refl
 
 pub bytes-saved : (m : Monitor) → monitorSaved (monitorBytes m) ≡ true
@@ -34,16 +34,16 @@ load-back m t =
     (slice-whole 0 12 (m .registers) (t .registers))
 
 pub save-back :
-    (bytes : List ℕ) → length bytes ≡ 20 → ((k : ℕ) → getD bytes k 0 < 256) → monitorSaved bytes ≡ true
+    (bytes : List ℕ) → length bytes ≡ monitorSize → ((k : ℕ) → getD bytes k 0 < 256) → monitorSaved bytes ≡ true
     → monitorBytes (monitorFrom bytes) ≡ bytes
-save-back bytes n byte h = kept ∙ slice-whole 0 20 bytes n
+save-back bytes n byte h = kept ∙ slice-whole 0 monitorSize bytes n
   where
     at-reset : (k : ℕ) → k < 7 → savedByte bytes (getD readOnlyIndices k 0) ≡ resetOf (getD readOnlyIndices k 0)
     at-reset k l =
         eqb-true (savedByte bytes (getD readOnlyIndices k 0)) (resetOf (getD readOnlyIndices k 0))
         (all-at 7 (λ j. eqb (savedByte bytes (getD readOnlyIndices j 0)) (resetOf (getD readOnlyIndices j 0))) h k l)
 
-    kept : monitorBytes (monitorFrom bytes) ≡ slice 0 20 0 bytes
+    kept : monitorBytes (monitorFrom bytes) ≡ slice 0 monitorSize 0 bytes
     kept =
         rw (
           at-reset 0 (omega arith),

@@ -1,3 +1,5 @@
+pub mod Bit
+pub mod Index
 pub mod Monitor
 pub mod Saved
 pub mod Table

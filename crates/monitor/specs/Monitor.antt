@@ -9,12 +9,14 @@ use Rattle.access.specs.Block.{Result, result, status, takesByte}
 use Rattle.access.specs.Status.{done}
 use Rattle.access.specs.declared.Access.{Access}
 use Rattle.mask.specs.Mask.{within, cleared, hasBit}
+use Rattle.monitor.specs.Bit as bit
+use Rattle.monitor.specs.Index as at
 use Rattle.monitor.specs.Table.{
   absent,
   readOnly,
   lock,
   lockable,
-  unlocked,
+  neverLocked,
   write1Clears,
   allOf,
   kindOf,
@@ -33,8 +35,8 @@ abbrev pub register : Monitor → ℕ → ℕ
 register m i = getD (m .registers) (slotOf i) 0
 
 -- the monitor with a value stored in this register
-abbrev pub stored : Monitor → ℕ → ℕ → Monitor
-stored m i v = monitor (m .index) (set (m .registers) (slotOf i) v)
+abbrev pub withRegister : Monitor → ℕ → ℕ → Monitor
+withRegister m i v = monitor (m .index) (set (m .registers) (slotOf i) v)
 
 -- the value of the register at a listed index; a read-only register always has its reset value
 abbrev pub registerOf : Monitor → ℕ → ℕ
@@ -64,11 +66,11 @@ dataRead m = cond (eqb (kindOf (m .index)) absent) (status 4 m) (result (done (r
 
 -- 40h: "Lock is bit 1"
 abbrev pub lockSet : Monitor → Bool
-lockSet m = hasBit 0x02 (register m 0x40)
+lockSet m = hasBit bit.lock (register m at.lock)
 
 -- "A locked register written while Lock is set: status 2."
 unfoldable pub lockableWrite : Monitor → ℕ → ℕ → Result Monitor
-lockableWrite m i v = cond (lockSet m) (status 2 m) (status 0 (stored m i v))
+lockableWrite m i v = cond (lockSet m) (status 2 m) (status 0 (withRegister m i v))
 
 -- a write to the register at an index, by its kind. "Lock is bit 1: writing 1 sets it, 0 does nothing"
 unfoldable pub writeAs : ℕ → Monitor → ℕ → ℕ → Result Monitor
@@ -76,8 +78,8 @@ writeAs kind m i v =
     cond (eqb kind lock) (lockableWrite m i (bitOr (register m i) (bitAnd v (maskOf i))))
     (cond (eqb kind readOnly) (status 2 m)
     (cond (eqb kind lockable) (lockableWrite m i (bitAnd v (maskOf i)))
-    (cond (eqb kind write1Clears) (status 0 (stored m i (cleared 0xFF (register m i) v)))
-    (cond (eqb kind unlocked) (status 0 (stored m i (bitAnd v (maskOf i)))) (status 4 m)))))
+    (cond (eqb kind write1Clears) (status 0 (withRegister m i (cleared 0xFF (register m i) v)))
+    (cond (eqb kind neverLocked) (status 0 (withRegister m i (bitAnd v (maskOf i)))) (status 4 m)))))
 
 abbrev pub dataWrite : Monitor → ℕ → Result Monitor
 dataWrite m v = writeAs (kindOf (m .index)) m (m .index) v
@@ -92,7 +94,7 @@ monitorAccess m offset x =
 
 -- ---- "5 sensor (0 to 3, set in 83h)"
 abbrev pub withSensors : Monitor → ℕ → Monitor
-withSensors m bits = stored m 0x83 (bitOr (register m 0x83) bits)
+withSensors m bits = withRegister m at.voltageStatus (bitOr (register m at.voltageStatus) bits)
 
 abbrev pub monitorEvent : Monitor → ℕ → ℕ → Monitor
 monitorEvent m kind operand = cond (eqb kind 5) (withSensors m (operand % 4)) m
@@ -100,7 +102,7 @@ monitorEvent m kind operand = cond (eqb kind 5) (withSensors m (operand % 4)) m
 -- "The monitor interrupt is on exactly if INTEN, VOLT and either both VTR bits or both VBAT bits are set."
 abbrev pub interrupt : Monitor → Bool
 interrupt m =
-    hasBit 0x04 (register m 0x7C)
-    && hasBit 0x01 (register m 0x7E)
-    && ((hasBit 0x10 (register m 0x7E) && hasBit 0x01 (register m 0x83))
-    || (hasBit 0x02 (register m 0x7E) && hasBit 0x02 (register m 0x83)))
+    hasBit bit.inten (register m at.interruptControl)
+    && hasBit bit.voltEnable (register m at.interruptEnables)
+    && ((hasBit bit.vtrEnable (register m at.interruptEnables) && hasBit bit.vtrStatus (register m at.voltageStatus))
+    || (hasBit bit.vbatEnable (register m at.interruptEnables) && hasBit bit.vbatStatus (register m at.voltageStatus)))

@@ -15,7 +15,7 @@ pub record Row : Type 0 where
   pub mask : ℕ
 
 -- ---- the columns "Kind" and "Locked by Lock": `lock` is 40h itself, `lockable` is read/write and locked by Lock,
--- `unlocked` is read/write and never locked
+-- `neverLocked` is read/write and not locked
 abbrev pub absent : ℕ
 absent = 0
 
@@ -28,8 +28,8 @@ lock = 2
 abbrev pub lockable : ℕ
 lockable = 3
 
-abbrev pub unlocked : ℕ
-unlocked = 4
+abbrev pub neverLocked : ℕ
+neverLocked = 4
 
 abbrev pub write1Clears : ℕ
 write1Clears = 5
@@ -50,7 +50,7 @@ table =
     ∷ row 0x82 0x82 lockable 0x0E 0x0F
     ∷ row 0x83 0x83 write1Clears 0x00 0x03
     ∷ row 0x84 0x88 readOnly 0x00 0xFF
-    ∷ row 0x90 0x91 unlocked 0x04 0x1F
+    ∷ row 0x90 0x91 neverLocked 0x04 0x1F
     ∷ row 0xB5 0xB5 lockable 0x00 0x33
     ∷ row 0xB6 0xB6 lockable 0x00 0xF0
     ∷ row 0xB7 0xB7 lockable 0x00 0x0F

@@ -3,7 +3,7 @@
 use crate::Monitor;
 ghost use mathlib.Core.Path.{_≡_};
 ghost use lib.ListN.{length};
-ghost use Rattle.monitor.specs.Saved.{monitorBytes, monitorFrom, monitorSaved};
+ghost use Rattle.monitor.specs.Saved.{monitorBytes, monitorFrom, monitorSaved, monitorSize};
 
 impl Monitor {
     pub const SIZE: usize = 20;
@@ -44,7 +44,7 @@ impl Monitor {
     }
 
     pub fn from_bytes(bytes: &[u8]) -> Self
-        requires { ⌜ length (now bytes) ≡ 20 ⌝ }
+        requires { ⌜ length (now bytes) ≡ monitorSize ⌝ }
         ensures { λ r. ⌜ r ≡ monitorFrom (now (bytes .entry)) ⌝ }
     {
         Monitor {
@@ -71,7 +71,7 @@ impl Monitor {
 
     // Can these bytes be a monitor? The read-only registers 6Eh, 6Fh and 84h to 88h must have their reset values.
     pub fn is_saved(bytes: &[u8]) -> bool
-        requires { ⌜ length (now bytes) ≡ 20 ⌝ }
+        requires { ⌜ length (now bytes) ≡ monitorSize ⌝ }
         ensures { λ r. ⌜ r ≡ monitorSaved (now (bytes .entry)) ⌝ }
     {
         let resets = Monitor::READ_ONLY_RESET;

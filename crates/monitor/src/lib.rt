@@ -21,7 +21,7 @@ ghost use Rattle.monitor.specs.Monitor.{
   lockableWrite,
   lockSet,
   register,
-  stored,
+  withRegister,
   monitorEvent,
   interrupt,
 };
@@ -62,7 +62,8 @@ impl AccessResult {
 }
 
 impl Monitor {
-    // Kinds of registers. LOCK is 40h itself. LOCKABLE is read/write and locked by Lock, UNLOCKED is read/write and never locked.
+    // Kinds of registers. LOCK is 40h itself. LOCKABLE is read/write and locked by Lock, NEVER_LOCKED is read/write
+    // and not locked.
     pub const ABSENT: u8 = 0;
 
     pub const READ_ONLY: u8 = 1;
@@ -71,7 +72,7 @@ impl Monitor {
 
     pub const LOCKABLE: u8 = 3;
 
-    pub const UNLOCKED: u8 = 4;
+    pub const NEVER_LOCKED: u8 = 4;
 
     pub const WRITE_1_CLEARS: u8 = 5;
 
@@ -90,14 +91,14 @@ impl Monitor {
 
     pub const VTR_STATUS: u8 = 0x01;
 
-    // The places of 40h, 7Ch, 7Eh and 83h in `registers`.
-    const SLOT_40: usize = 0;
+    // The places in `registers` of 40h (Lock), 7Ch (interrupt control), 7Eh (interrupt enables) and 83h (voltage status).
+    const LOCK_SLOT: usize = 0;
 
-    const SLOT_7C: usize = 1;
+    const INTERRUPT_CONTROL_SLOT: usize = 1;
 
-    const SLOT_7E: usize = 2;
+    const INTERRUPT_ENABLES_SLOT: usize = 2;
 
-    const SLOT_83: usize = 6;
+    const VOLTAGE_STATUS_SLOT: usize = 6;
 
     // The kind of a sensor event.
     pub const SENSOR: u32 = 5;
@@ -194,11 +195,11 @@ impl Monitor {
             Monitor::LOCKABLE => self.lockable_write(index, value & Monitor::mask_of(index)),
             Monitor::WRITE_1_CLEARS => AccessResult::status(
                 Answer::DONE,
-                self.stored(index, mask::cleared8(self.register(index), value)),
+                self.with_register(index, mask::cleared8(self.register(index), value)),
             ),
-            Monitor::UNLOCKED => AccessResult::status(
+            Monitor::NEVER_LOCKED => AccessResult::status(
                 Answer::DONE,
-                self.stored(index, value & Monitor::mask_of(index)),
+                self.with_register(index, value & Monitor::mask_of(index)),
             ),
             _ => AccessResult::status(Answer::ABSENT, self),
         }
@@ -208,7 +209,7 @@ impl Monitor {
     fn lock_set(self) -> bool
         ensures { λ r. ⌜ r ≡ lockSet self ⌝ }
     {
-        self.registers[Monitor::SLOT_40] & Monitor::LOCK_BIT != 0
+        self.registers[Monitor::LOCK_SLOT] & Monitor::LOCK_BIT != 0
     }
 
     // A write to a register that Lock locks.
@@ -219,7 +220,7 @@ impl Monitor {
         if self.lock_set() {
             return AccessResult::status(Answer::BLOCKED, self);
         }
-        AccessResult::status(Answer::DONE, self.stored(index, value))
+        AccessResult::status(Answer::DONE, self.with_register(index, value))
     }
 
     fn kind_of(index: u8) -> u8
@@ -245,13 +246,13 @@ impl Monitor {
         ensures { λ r. ⌜ r ≡ slotOf index ⌝ }
     {
         match index {
-            0x40 => 0,
-            0x7C => 1,
-            0x7E => 2,
+            0x40 => Monitor::LOCK_SLOT,
+            0x7C => Monitor::INTERRUPT_CONTROL_SLOT,
+            0x7E => Monitor::INTERRUPT_ENABLES_SLOT,
             0x80 => 3,
             0x81 => 4,
             0x82 => 5,
-            0x83 => 6,
+            0x83 => Monitor::VOLTAGE_STATUS_SLOT,
             0x90 => 7,
             0x91 => 8,
             0xB5 => 9,
@@ -269,9 +270,9 @@ impl Monitor {
         self.registers[slot]
     }
 
-    fn stored(mut self, index: u8, value: u8) -> Self
+    fn with_register(mut self, index: u8, value: u8) -> Self
         requires { ⌜ slotOf index < 12 ⌝ }
-        ensures { λ r. ⌜ r ≡ stored self index value ⌝ }
+        ensures { λ r. ⌜ r ≡ withRegister self index value ⌝ }
     {
         let slot = Monitor::slot_of(index);
         self.registers[slot] = value;
@@ -284,7 +285,8 @@ impl Monitor {
     {
         if kind == Monitor::SENSOR {
             let bits = (operand % 4) as u8;
-            self.registers[Monitor::SLOT_83] = self.registers[Monitor::SLOT_83] | bits;
+            self.registers[Monitor::VOLTAGE_STATUS_SLOT] =
+                self.registers[Monitor::VOLTAGE_STATUS_SLOT] | bits;
         }
         self
     }
@@ -293,9 +295,9 @@ impl Monitor {
     pub fn interrupt(self) -> bool
         ensures { λ r. ⌜ r ≡ interrupt self ⌝ }
     {
-        let control = self.registers[Monitor::SLOT_7C];
-        let enable = self.registers[Monitor::SLOT_7E];
-        let status = self.registers[Monitor::SLOT_83];
+        let control = self.registers[Monitor::INTERRUPT_CONTROL_SLOT];
+        let enable = self.registers[Monitor::INTERRUPT_ENABLES_SLOT];
+        let status = self.registers[Monitor::VOLTAGE_STATUS_SLOT];
         (control & Monitor::INTEN != 0)
             & (enable & Monitor::VOLT_ENABLE != 0)
             & ((enable & Monitor::VTR_ENABLE != 0) & (status & Monitor::VTR_STATUS != 0)

@@ -159,8 +159,8 @@ impl Monitor {
         0,
         0,
         // 90h
-        Monitor::UNLOCKED,
-        Monitor::UNLOCKED,
+        Monitor::NEVER_LOCKED,
+        Monitor::NEVER_LOCKED,
         0,
         0,
         0,

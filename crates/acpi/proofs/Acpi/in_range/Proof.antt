@@ -1,5 +1,4 @@
 -- `acpi::Acpi::in_range` returns what `acpiInRange` defines: it makes the same tests in the same order.
-use Prim.Native.Nat.{_^_}
 use mathlib.Core.Path.{_≡_}
 use mathlib.Core.Bool.{Bool, _&&_, and-assoc, and-true}
 use mathlib.Core.List.{[], _∷_}
@@ -9,7 +8,9 @@ use Rattle.lists.specs.Tests.{allHold}
 use Rattle.mask.specs.Every.{allBelow}
 use Rattle.mask.specs.Mask.{within}
 use Rattle.acpi.specs.Acpi.{acpiInRange, isCpuState, mapInRange}
-use Rattle.acpi.specs.Setup.{isSetupIndex}
+use Rattle.acpi.specs.Event.{timerSize}
+use Rattle.acpi.specs.Mask as mask
+use Rattle.acpi.specs.Setup.{irqMax, isSetupIndex}
 use Rattle.acpi.proofs.Acpi.in_range.Statement.{statement}
 use Rattle.acpi.proofs.Acpi.in_range.Tie as tie
 
@@ -44,6 +45,6 @@ in-range-spec =
       c .before .before .wide8 .ensures,
       c .maps-in-range .ensures,
     )
-    (chain (within 0x17 (a .pcnt)) (isCpuState (a .cpu)) (within 0x8F31 (a .pm1sts)) (within 0x0721 (a .pm1en))
-    (within 0x1C02 (a .pm1cnt)) (isSetupIndex (a .setupidx)) (leb (a .irq) 15) (ltb (a .timer) (2 ^ 24))
+    (chain (within mask.pCnt (a .pcnt)) (isCpuState (a .cpu)) (within mask.pm1aSts (a .pm1sts)) (within mask.pm1aEn (a .pm1en))
+    (within mask.pm1aCnt (a .pm1cnt)) (isSetupIndex (a .setupidx)) (leb (a .irq) irqMax) (ltb (a .timer) timerSize)
     (allBelow 8 (mapInRange (a .maps))))))

@@ -4,6 +4,7 @@ use borrow.Author.Needs.{needs}
 use borrow.Author.Tests.{ne-eqb}
 use Rattle.acpi.proofs.Legal.{between, outside}
 use Rattle.acpi.specs.Setup.{setupWrite}
+use Rattle.acpi.specs.SetupIndex as index
 use Rattle.acpi.proofs.Acpi.setup_write.Statement.{statement}
 use Rattle.acpi.proofs.Acpi.setup_write.Tie as tie
 
@@ -26,13 +27,13 @@ setup-write-spec =
       ne-eqb _ _ (c .before .before .before .match .rest .0 .0 .1),
       ne-eqb _ _ (c .before .before .before .match .rest .0 .1),
       ne-eqb _ _ (c .before .before .before .match .rest .1),
-      between 0x10 0x17 _ (c .before .before .if1 .left) (c .before .if2 .taken),
+      between index.firstMap index.lastMap _ (c .before .before .if1 .left) (c .before .if2 .taken),
       c .map-write .ensures,
     ))
     (λ c. simp (
       ne-eqb _ _ (c .before .before .match .rest .0 .0 .1),
       ne-eqb _ _ (c .before .before .match .rest .0 .1),
       ne-eqb _ _ (c .before .before .match .rest .1),
-      outside 0x10 0x17 _ (⊎-elim (λ w. inl (w .taken)) (λ w. inr (w .1 .left)) (c .before .if1 .came)),
+      outside index.firstMap index.lastMap _ (⊎-elim (λ w. inl (w .taken)) (λ w. inr (w .1 .left)) (c .before .if1 .came)),
       c .status3 .ensures,
     )))

@@ -3,16 +3,16 @@ use Prim.Native.Nat.{_≤_, _-_}
 use mathlib.Core.Path.{_≡_, ap, refl}
 use lib.ListN.{length, length-set, take}
 use native.Mathlib.Omega.{arith}
-use Rattle.key.specs.Saved.{keyFrom}
+use Rattle.key.specs.Saved.{keyFrom, keySize}
 use Rattle.key.proofs.Copy.{all-copied, one-more}
 use Rattle.key.proofs.Key.from_bytes.Statement.{statement}
 use Rattle.key.proofs.Key.from_bytes.Tie as tie
 
 abbrev Inv-loop : tie.InvT-loop
-Inv-loop bytes key₀ k₀ key k = (k ≤ 32) × ((length key ≡ 32) × (take k key ≡ take k bytes))
+Inv-loop bytes key₀ k₀ key k = (k ≤ keySize) × ((length key ≡ keySize) × (take k key ≡ take k bytes))
 
 abbrev μ-loop : tie.MeasureT-loop
-μ-loop bytes key₀ k₀ key k = 32 - k
+μ-loop bytes key₀ k₀ key k = keySize - k
 
 loop-holds : tie.Need-loop-holds Inv-loop μ-loop
 loop-holds c = (omega arith, (refl, refl))
@@ -40,7 +40,7 @@ returns : tie.Need-returns Inv-loop μ-loop
 returns c =
     let l = c .before .loop in
     let bytes = c .before .before .args .bytes .now in
-    let end : l .k ≡ 32 = omega arith in
+    let end : l .k ≡ keySize = omega arith in
     ap keyFrom (all-copied (l .key) bytes (l .k) (l .inv .1 .1) (omega arith) (omega arith))
 
 pub from-bytes-spec : {M : Type 1} → statement M

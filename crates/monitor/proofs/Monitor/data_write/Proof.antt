@@ -19,11 +19,11 @@ lockable-write-requires-2 c κs = slot-below (c .before .before .before .args .s
 register-requires-2 : tie.Need-register-requires-2
 register-requires-2 c κs = slot-below (c .before .before .args .self .index) (omega arith)
 
-stored-requires : tie.Need-stored-requires
-stored-requires c κs = slot-below (c .before .before .before .before .args .self .index) (omega arith)
+with-register-requires : tie.Need-with-register-requires
+with-register-requires c κs = slot-below (c .before .before .before .before .args .self .index) (omega arith)
 
-stored-requires-2 : tie.Need-stored-requires-2
-stored-requires-2 c κs = slot-below (c .before .before .before .args .self .index) (omega arith)
+with-register-requires-2 : tie.Need-with-register-requires-2
+with-register-requires-2 c κs = slot-below (c .before .before .before .args .self .index) (omega arith)
 
 returns : tie.Need-returns
 unfolding writeAs
@@ -58,7 +58,7 @@ returns-4 c =
       c .before .before .before .before .match .keys4,
       ← (c .before .before .before .register2 .ensures),
       ← (c .before .before .cleared8 .ensures),
-      ← (c .before .stored .ensures),
+      ← (c .before .with-register .ensures),
     )
     (c .status2 .ensures)
 
@@ -69,7 +69,7 @@ returns-5 c =
       ← (c .before .before .before .before .kind-of .ensures),
       c .before .before .before .match .keys5,
       ← (c .before .before .mask-of3 .ensures),
-      ← (c .before .stored2 .ensures),
+      ← (c .before .with-register2 .ensures),
     )
     (c .status3 .ensures)
 
@@ -91,5 +91,5 @@ data-write-spec =
     tie.close
     (tie.spec (λ c κs. search needs) register-requires (λ c κs. search needs) lockable-write-requires
     (λ c κs. search needs) (λ c κs. search needs) lockable-write-requires-2 register-requires-2
-    (λ c κs. search needs) stored-requires (λ c κs. search needs) (λ c κs. search needs) stored-requires-2
+    (λ c κs. search needs) with-register-requires (λ c κs. search needs) (λ c κs. search needs) with-register-requires-2
     (λ c κs. search needs) (λ c κs. search needs) returns returns-2 returns-3 returns-4 returns-5 returns-6)

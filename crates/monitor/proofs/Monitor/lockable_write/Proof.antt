@@ -14,7 +14,7 @@ returns-2 c =
     rw (
       ← (c .before .before .before .lock-set .ensures),
       c .before .before .if1 .left,
-      ← (c .before .stored .ensures),
+      ← (c .before .with-register .ensures),
     )
     (c .status2 .ensures)
 
