@@ -11,7 +11,7 @@ use Rattle.acpi.proofs.Saved as of-acpi
 use Rattle.acpi.specs.Saved.{acpiBytes, acpiFrom, acpiSaved, acpiSize}
 use Rattle.config.proofs.Saved as of-config
 use Rattle.config.specs.Saved.{configBytes, configFrom, configSaved, configSize}
-use Rattle.acpi.specs.Acpi.{acpiInRange}
+use Rattle.config.specs.Config.{configInRange}
 use Rattle.device.specs.Device.{deviceInRange}
 use Rattle.device.specs.declared.Device.{Device}
 use Rattle.key.proofs.Saved as of-key
@@ -119,7 +119,7 @@ module _ (d : Device) where
 
 -- a caller who overlooks that nothing was loaded is refused by the next call
 pub no-device-refused : deviceInRange noDevice ≡ false
-unfolding deviceInRange acpiInRange
+unfolding deviceInRange configInRange
 no-device-refused = refl
 
 -- ---- loaded, then saved

@@ -7,9 +7,9 @@ use lib.Dec.{eqb}
 use lib.ListN.{drop, length, take}
 use Rattle.acpi.specs.Saved.{acpiBytes, acpiFrom, acpiSaved, acpiSize}
 use Rattle.config.specs.Saved.{configBytes, configFrom, configSaved, configSize}
-use Rattle.acpi.specs.Acpi.{freshAcpi}
-use Rattle.acpi.specs.Fields.{withCpu}
-use Rattle.device.specs.Device.{freshDevice, withAcpi}
+use Rattle.config.specs.Config.{freshConfig}
+use Rattle.config.specs.Fields.{withActivate}
+use Rattle.device.specs.Device.{freshDevice, withConfig}
 use Rattle.device.specs.declared.Device.{Device}
 use Rattle.key.specs.Saved.{keyBytes, keyFrom, keySize}
 use Rattle.lists.specs.Tests.{allHold}
@@ -63,9 +63,9 @@ abbrev pub saveRefusal : List ℕ → ℕ
 saveRefusal bytes = cond (eqb (length bytes) stateSize) 0 number.badState
 
 -- ---- loading: bytes of another length, and bytes that no device can hold, are refused with 11 at place 0
--- the CPU state is 0, 2 or 3, so this device is not in range, and every call refuses it
+-- activate has the mask 01h, so this device is not in range, and every call refuses it
 abbrev pub noDevice : Device
-noDevice = withAcpi freshDevice (withCpu freshAcpi 1)
+noDevice = withConfig freshDevice (withActivate freshConfig 0x02)
 
 abbrev pub notLoaded : LoadResult
 notLoaded = record { refusal = number.badState; place = 0; device = noDevice }

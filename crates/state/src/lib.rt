@@ -29,8 +29,8 @@ const ACPI_START: usize = MONITOR_START + Monitor::SIZE;
 
 pub const SIZE: usize = ACPI_START + Acpi::SIZE;
 
-// The CPU state is 0, 2 or 3.
-const NO_CPU_STATE: u8 = 1;
+// The mask of activate is 01h.
+const OUTSIDE_ACTIVATE_MASK: u8 = 0x02;
 
 // What `load` returns: refusal 0 and the device, or refusal 11, place 0 and a device that every call refuses.
 pub struct LoadResult {
@@ -87,18 +87,25 @@ fn read_from(bytes: &[u8]) -> Device
     }
 }
 
-// A device with an illegal CPU state. It is not in range, so that a caller who overlooks the refusal is refused with 11 by the next call.
+// A device whose register activate has a bit outside its mask. It is not in range, so that a caller who overlooks the refusal is refused
+// with 11 by the next call.
 fn no_device() -> Device
     ensures { λ r. ⌜ r ≡ noDevice ⌝ }
 {
-    let fresh = Device::fresh();
-    let mut acpi = fresh.acpi;
-    acpi.cpu = NO_CPU_STATE;
+    let config = Config {
+        unlocked: false,
+        index: 0,
+        number: 0,
+        activate: OUTSIDE_ACTIVATE_MASK,
+        runtime_base: 0,
+        key_base: 0,
+        control: Config::CONTROL_RESET,
+    };
     Device {
-        config: fresh.config,
-        acpi,
-        monitor: fresh.monitor,
-        key: fresh.key,
+        config,
+        acpi: Acpi::fresh(),
+        monitor: Monitor::fresh(),
+        key: Key::fresh(),
     }
 }
 
@@ -131,12 +138,12 @@ pub fn load(bytes: &[u8]) -> LoadResult
     if bytes.len() != SIZE {
         return not_loaded();
     }
-    if !is_saved(bytes) {
-        return not_loaded();
+    if is_saved(bytes) {
+        return LoadResult {
+            refusal: 0,
+            place: 0,
+            device: read_from(bytes),
+        };
     }
-    LoadResult {
-        refusal: 0,
-        place: 0,
-        device: read_from(bytes),
-    }
+    not_loaded()
 }

@@ -1,4 +1,5 @@
--- `save` leaves `saved` in the slice: the state replaces a slice of its length, and any other slice is unchanged.
+-- `save` leaves `saved` in the slice: the state replaces a slice of its length, and any other slice is unchanged and refused.
+use borrow.Author.Tests.{eq-eqb, ne-eqb}
 use Rattle.state.proofs.Slices.{saved-not, saved-whole}
 use borrow.Author.Needs.{needs}
 use Rattle.state.proofs.save.Statement.{statement}
@@ -17,13 +18,10 @@ same-length : tie.Need-same-length
 same-length c = search needs
 
 returns : tie.Need-returns
-returns c =
-    let args = c .before .before .before .before .before .before .before .before .args in
-    saved-whole (args .device) (args .bytes .now) _ (c .before .before .before .before .before .before .if1 .taken)
-    (rw (c .before .before .before .before .bytes-of .ensures) at (c .before .before .put .ensures))
+returns c = let n = c .before .before .before .before .before .before .if1 .taken in (rw (eq-eqb _ _ n), saved-whole (c .before .before .before .before .before .before .before .before .args .device) (c .before .before .before .before .before .before .before .before .args .bytes .now) _ n (rw (c .before .before .before .before .bytes-of .ensures) at (c .before .before .put .ensures)))
 
 returns-2 : tie.Need-returns-2
-returns-2 c = saved-not (c .before .before .args .device) (c .before .before .args .bytes .now) (c .if1 .left)
+returns-2 c = let n = c .if1 .left in (rw (ne-eqb _ _ n), saved-not (c .before .before .args .device) (c .before .before .args .bytes .now) n)
 
 pub save-spec : {M : Type 1} → statement M
 save-spec =
