@@ -1,1 +1,3 @@
 pub mod Puts
+pub mod Read
+pub mod ReadLoop
