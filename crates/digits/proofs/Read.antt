@@ -1,17 +1,17 @@
--- Laws of reading: which bytes are digits, and how the digits of a line are read one after the other.
-use Prim.Native.Nat.{ℕ, zero, suc, _+_, _-_, _*_, _/_, _%_, _^_, _≤_, _<_}
-use mathlib.Core.Path.{_≡_, ap, refl, sym, _∙_}
-use mathlib.Core.Bool.{Bool, true, false, cond, _&&_}
+-- Laws of reading: which characters are digits, and that digits are read one after the other.
+use Prim.Native.Nat.{ℕ, zero, suc, _+_, _-_, _*_, _%_, _≤_, _<_}
+use mathlib.Core.Path.{_≡_, ap, refl, _∙_}
+use mathlib.Core.Bool.{Bool, true, false, cond, false≢true, _&&_}
 use mathlib.Core.List.{List, [], _∷_}
 use native.Mathlib.Numerals.{add-one}
 use native.Mathlib.Omega.{arith}
 use borrow.Author.Tests.{eq-eqb, le-leb, leb-true, lt-leb, ne-eqb}
 use lib.Dec.{leb}
-use lib.ListN.{drop, drop-of-length-le, getD, length, take}
-use lib.Seq.{drop-nil}
-use Rattle.digits.specs.Read.{byteAt, digitAt, digitOf, digitsOf, hexByteAt, isSpace, noDigit, valueFrom, within}
+use lib.ListN.{drop, length, take}
+use lib.Seq.{drop-nil, take-nil}
+use Rattle.digits.specs.Read.{byteAt, byteOf, charAt, digitAt, digitOf, digitsAt, digitsOf, isSpace, noDigit, within}
 
--- ---- one byte
+-- ---- one character, which lies in one of seven ranges
 module _ (b : ℕ) where
   above : (first last : ℕ) → last < b → within first last b ≡ false
   above first last h = pick (leb first b)
@@ -54,13 +54,13 @@ module _ (b : ℕ) where
   unfolding digitOf
   after-lower h = rw (above 0x30 0x39 (omega arith), above 0x41 0x46 (omega arith), above 0x61 0x66 h)
 
-  -- a digit is below 16
+  -- the value is at most 16
   at-most : (first last : ℕ) → within first last b ≡ true → b ≤ last
   at-most first last e = leb-true b last (second (leb first b) (leb b last) e)
     where
       second : (p q : Bool) → (p && q) ≡ true → q ≡ true
       second true q f = f
-      second false q f = absurd (let z : _≡_ {A = Bool} false true = f in let y : _≡_ {A = ℕ} 0 1 = cc in omega arith)
+      second false q f = absurd (false≢true f)
 
   either : (p : Bool) (x y : ℕ) → (p ≡ true → x ≤ noDigit) → y ≤ noDigit → cond p x y ≤ noDigit
   either true x y f g = f refl
@@ -73,47 +73,54 @@ module _ (b : ℕ) where
       (either (within 0x41 0x46 b) _ _ (λ e. omega (arith, at-most 0x41 0x46 e))
       (either (within 0x61 0x66 b) _ _ (λ e. omega (arith, at-most 0x61 0x66 e)) (omega arith)))
 
--- ---- the digits from an index on
-pub no-digits : (line : List ℕ) (k : ℕ) → digitAt line k ≡ noDigit → digitsOf (drop k line) ≡ []
-no-digits [] k e = rw (drop-nil k)
-no-digits (b ∷ bs) zero e = rw (eq-eqb (digitOf b) noDigit e)
-no-digits (b ∷ bs) (suc k) e = no-digits bs k e
+-- ---- the digits at an index
+pub none-of : (line : List ℕ) (at : ℕ) → digitAt line at ≡ noDigit → digitsOf (drop at line) ≡ []
+none-of [] at e = rw (drop-nil at)
+none-of (b ∷ bs) zero e = rw (eq-eqb (digitOf b) noDigit e)
+none-of (b ∷ bs) (suc at) e = none-of bs at e
 
-pub one-digit : (line : List ℕ) (k : ℕ) → (digitAt line k ≡ noDigit → ⊥)
-    → digitsOf (drop k line) ≡ digitAt line k ∷ digitsOf (drop (suc k) line)
+one-of : (line : List ℕ) (at : ℕ) → (digitAt line at ≡ noDigit → ⊥)
+    → digitsOf (drop at line) ≡ digitAt line at ∷ digitsOf (drop (suc at) line)
 unfolding digitOf
-one-digit [] k h = absurd (h refl)
-one-digit (b ∷ bs) zero h = rw (ne-eqb (digitOf b) noDigit h)
-one-digit (b ∷ bs) (suc k) h = one-digit bs k h
+one-of [] at some = absurd (some refl)
+one-of (b ∷ bs) zero some = rw (ne-eqb (digitOf b) noDigit some)
+one-of (b ∷ bs) (suc at) some = one-of bs at some
 
-pub digit-inside : (line : List ℕ) (k : ℕ) → (digitAt line k ≡ noDigit → ⊥) → k < length line
+pub no-digits : (most : ℕ) (line : List ℕ) (at : ℕ) → digitAt line at ≡ noDigit → digitsAt most line at ≡ []
+no-digits most line at e = ap (take most) (none-of line at e) ∙ take-nil most
+
+pub one-digit : (most : ℕ) (line : List ℕ) (at : ℕ) → (digitAt line at ≡ noDigit → ⊥)
+    → digitsAt (suc most) line at ≡ digitAt line at ∷ digitsAt most line (at + 1)
+one-digit most line at some = rw (add-one at) (ap (take (suc most)) (one-of line at some))
+
+-- ---- a digit or a space lies within the line
+pub digit-inside : (line : List ℕ) (at : ℕ) → (digitAt line at ≡ noDigit → ⊥) → at < length line
 unfolding digitOf
-digit-inside [] k h = absurd (h refl)
-digit-inside (b ∷ bs) zero h = omega arith
-digit-inside (b ∷ bs) (suc k) h = let i = digit-inside bs k h in omega (arith, i)
+digit-inside [] at some = absurd (some refl)
+digit-inside (b ∷ bs) zero some = omega arith
+digit-inside (b ∷ bs) (suc at) some = let i = digit-inside bs at some in omega (arith, i)
 
--- ---- the value keeps its lowest 32 bits
-pub same-value : (ds : List ℕ) (v w : ℕ) → v % 2 ^ 32 ≡ w % 2 ^ 32 → valueFrom v ds % 2 ^ 32 ≡ valueFrom w ds % 2 ^ 32
-same-value [] v w e = e
-same-value (d ∷ ds) v w e = same-value ds (v * 16 + d) (w * 16 + d) (omega (arith, e))
-
-pub space-inside : (line : List ℕ) (k : ℕ) → isSpace line k ≡ true → k < length line
-space-inside [] k e = absurd (let y : _≡_ {A = ℕ} 0 1 = cc in omega arith)
+pub space-inside : (line : List ℕ) (at : ℕ) → isSpace line at ≡ true → at < length line
+space-inside [] at e = absurd (false≢true e)
 space-inside (b ∷ bs) zero e = omega arith
-space-inside (b ∷ bs) (suc k) e = let i = space-inside bs k e in omega (arith, i)
+space-inside (b ∷ bs) (suc at) e = let i = space-inside bs at e in omega (arith, i)
 
--- ---- two digits
+-- ---- a byte of two digits
 module _ (line : List ℕ) (at : ℕ) where
-  pub no-high : digitAt line at ≡ noDigit → hexByteAt line at ≡ 256
-  no-high h = rw (no-digits line at h)
+  pub no-high : digitAt line at ≡ noDigit → byteAt line at ≡ 256
+  no-high e = ap byteOf (no-digits 2 line at e)
 
-  pub no-low : (digitAt line at ≡ noDigit → ⊥) → digitAt line (at + 1) ≡ noDigit → hexByteAt line at ≡ 256
-  no-low h k = rw (one-digit line at h, no-digits line (suc at) (rw (← add-one at) k))
+  module _ (some : digitAt line at ≡ noDigit → ⊥) where
+    pub no-low : digitAt line (at + 1) ≡ noDigit → byteAt line at ≡ 256
+    no-low e = ap byteOf (one-digit 1 line at some ∙ ap (λ (ds : List ℕ). digitAt line at ∷ ds) (no-digits 1 line (at + 1) e))
 
-  pub two-digits : (digitAt line at ≡ noDigit → ⊥) → (digitAt line (at + 1) ≡ noDigit → ⊥)
-      → hexByteAt line at ≡ digitAt line at % 16 * 16 + digitAt line (at + 1) % 16
-  two-digits h k =
-      let low : digitAt line (suc at) ≡ noDigit → ⊥ = rw add-one at k in
-      let most = digit-most (byteAt line at) in
-      let most2 = digit-most (byteAt line (suc at)) in
-      rw (add-one, one-digit line at h, one-digit line (suc at) low) (omega (arith, h, low, most, most2))
+    pub two-digits : (digitAt line (at + 1) ≡ noDigit → ⊥)
+        → byteAt line at ≡ digitAt line at % 16 * 16 + digitAt line (at + 1) % 16
+    two-digits more =
+        let high = digitAt line at in
+        let low = digitAt line (at + 1) in
+        let m = digit-most (charAt line at) in
+        let n = digit-most (charAt line (at + 1)) in
+        let both = one-digit 1 line at some ∙ ap (λ (ds : List ℕ). high ∷ ds) (one-digit 0 line (at + 1) more) in
+        let sum : (0 * 16 + high) * 16 + low ≡ high % 16 * 16 + low % 16 = omega (arith, some, more, m, n) in
+        ap byteOf both ∙ sum

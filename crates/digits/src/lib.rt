@@ -1,13 +1,14 @@
 // Numbers and text in lines, for the programs `trace` and `replay`. Printing is proved to write the text that specs/Text.antt
-// defines. Parsing has no definition; it is compared with the independent model in reference/.
+// defines, and reading to return what specs/Read.antt defines. What is printed is read back: see proofs/ReadBack.antt.
 ghost use mathlib.Core.Path.{_≡_};
 ghost use Prim.Native.Nat.{_+_, _%_, _^_, _<_};
 ghost use lib.Dec.{leb};
 ghost use lib.ListN.{length};
-ghost use Rattle.digits.specs.Read.{digitOf, digitAt, isSpace, numberAt, nextNumber, hexByteAt};
+ghost use Rattle.digits.specs.Read.{digitOf, digitAt, isSpace, numberAt, nextNumber, byteAt};
 ghost use Rattle.digits.specs.Text.{lineAt, put, puts, hexDigit, byteText, hexText, digitText, decimalText};
 
-// A hex number that was read, and the index after its last digit. `ok` is false if there is no number of one to eight digits.
+// A hex number that was read, and the index after its last digit. If there is no number of one to eight digits, `ok` is false,
+// and the other two fields are of no use.
 pub struct Hex {
     pub ok: bool,
     pub value: u32,
@@ -95,7 +96,7 @@ pub fn next_number(line: &[u8], at: usize) -> Hex
     }
 }
 
-// The index `count` bytes after `at`. No line is long enough for this to wrap.
+// The index `count` bytes after `at`. It wraps at 2^64, and no line is that long.
 pub fn after(at: usize, count: usize) -> usize
     ensures { λ r. ⌜ r ≡ (at + count) % 2 ^ 64 ⌝ }
 {
@@ -104,7 +105,7 @@ pub fn after(at: usize, count: usize) -> usize
 
 // The byte of two hex digits at index `at`, or 256 if there are not two digits.
 pub fn byte(line: &[u8], at: usize) -> u32
-    ensures { λ r. ⌜ r ≡ hexByteAt (now (line .entry)) at ⌝ }
+    ensures { λ r. ⌜ r ≡ byteAt (now (line .entry)) at ⌝ }
 {
     let high = digit_at(line, at);
     let low = digit_at(line, after(at, 1));

@@ -1,4 +1,4 @@
--- `digits::byte` returns what `hexByteAt` defines: two digits, or 256 if one of the two is missing.
+-- `digits::byte` returns what `byteAt` defines: two digits, or 256 if one of the two is missing.
 use Prim.Native.Nat.{_+_, _%_, _^_}
 use mathlib.Core.Path.{_≡_, ap, sym, _∙_}
 use mathlib.Core.Logic.{⊎-elim}
@@ -9,8 +9,6 @@ use Rattle.digits.specs.Read.{digitAt, noDigit}
 use Rattle.digits.proofs.Read.{digit-inside, no-high, no-low, two-digits}
 use Rattle.digits.proofs.byte.Statement.{statement}
 use Rattle.digits.proofs.byte.Tie as tie
-use Rattle.digits.proofs.byte.Reads as reads
-use Rattle.digits.proofs.byte.Lts as lts
 
 digit-at-requires : tie.Need-digit-at-requires
 digit-at-requires c κs = search needs
@@ -31,7 +29,8 @@ returns c =
     (λ w. let some : digitAt line (a .at) ≡ noDigit → ⊥ = λ e. w .0 .left (high ∙ e) in
     let inside = digit-inside line (a .at) some in
     let index : (a .at + 1) % 2 ^ 64 ≡ a .at + 1 = omega (arith, inside) in
-    let low : c .before .digit-at2 .result ≡ digitAt line (a .at + 1) = c .before .digit-at2 .ensures ∙ ap (digitAt line) (c .before .before .after .ensures ∙ index) in
+    let low : c .before .digit-at2 .result ≡ digitAt line (a .at + 1) =
+    c .before .digit-at2 .ensures ∙ ap (digitAt line) (c .before .before .after .ensures ∙ index) in
     sym (no-low line (a .at) some (sym low ∙ eqb-true _ _ (w .1 .taken))))
     (c .if1 .came)
 
@@ -57,7 +56,8 @@ returns-2 c =
     let some : digitAt line (a .at) ≡ noDigit → ⊥ = λ q. e .before .if1 .left (high ∙ q) in
     let inside = digit-inside line (a .at) some in
     let index : (a .at + 1) % 2 ^ 64 ≡ a .at + 1 = omega (arith, inside) in
-    let low : d .digit-at2 .result ≡ digitAt line (a .at + 1) = d .digit-at2 .ensures ∙ ap (digitAt line) (d .before .after .ensures ∙ index) in
+    let low : d .digit-at2 .result ≡ digitAt line (a .at + 1) =
+    d .digit-at2 .ensures ∙ ap (digitAt line) (d .before .after .ensures ∙ index) in
     let last : digitAt line (a .at + 1) ≡ noDigit → ⊥ = λ q. eqb-false _ _ (e .if2 .left) (low ∙ q) in
     rw (c .before .wide .ensures, c .wide2 .ensures, high, low) (sym (two-digits line (a .at) some last))
 

@@ -1,5 +1,4 @@
 -- `digits::digit_at` returns what `digitAt` defines. After the end of the line there is no digit.
-use mathlib.Core.Path.{ap, sym, _∙_}
 use lib.ListN.{List·getD-eq-default}
 use borrow.Author.Needs.{needs}
 use Rattle.digits.specs.Read.{digitOf}

@@ -7,8 +7,6 @@ use Rattle.digits.specs.Read.{numberAt}
 use Rattle.digits.proofs.Read.{space-inside}
 use Rattle.digits.proofs.next_number.Statement.{statement}
 use Rattle.digits.proofs.next_number.Tie as tie
-use Rattle.digits.proofs.next_number.Reads as reads
-use Rattle.digits.proofs.next_number.Lts as lts
 
 is-space-requires : tie.Need-is-space-requires
 is-space-requires c κs = search needs
