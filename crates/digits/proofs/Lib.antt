@@ -1,1 +1,4 @@
 pub mod Puts
+pub mod Read
+pub mod ReadBack
+pub mod ReadLoop

@@ -1,10 +1,14 @@
 // Numbers and text in lines, for the programs `trace` and `replay`. Printing is proved to write the text that specs/Text.antt
-// defines. Parsing has no definition; it is compared with the independent model in reference/.
+// defines, and reading to return what specs/Read.antt defines. What is printed is read back: see proofs/ReadBack.antt.
 ghost use mathlib.Core.Path.{_≡_};
-ghost use Prim.Native.Nat.{_<_};
+ghost use Prim.Native.Nat.{_+_, _%_, _^_, _<_};
+ghost use lib.Dec.{leb};
+ghost use lib.ListN.{length};
+ghost use Rattle.digits.specs.Read.{digitOf, digitAt, isSpace, numberAt, nextNumber, byteAt};
 ghost use Rattle.digits.specs.Text.{lineAt, put, puts, hexDigit, byteText, hexText, digitText, decimalText};
 
-// A hex number that was read, and the index after its last digit. `ok` is false if there is no number of one to eight digits.
+// A hex number that was read, and the index after its last digit. If there is no number of one to eight digits, `ok` is false,
+// and the other two fields are of no use.
 pub struct Hex {
     pub ok: bool,
     pub value: u32,
@@ -14,33 +18,37 @@ pub struct Hex {
 pub const NO_DIGIT: u8 = 16;
 
 // The value of a hex digit, or NO_DIGIT.
-pub fn digit(b: u8) -> u8 {
-    if b'0' <= b && b <= b'9' {
-        return b - b'0';
+pub fn digit(b: u8) -> u8
+    ensures { λ r. ⌜ r ≡ digitOf b ⌝ }
+{
+    match b {
+        b'0'..=b'9' => b - b'0',
+        b'A'..=b'F' => b - b'A' + 10,
+        b'a'..=b'f' => b - b'a' + 10,
+        _ => NO_DIGIT,
     }
-    if b'A' <= b && b <= b'F' {
-        return b - b'A' + 10;
-    }
-    if b'a' <= b && b <= b'f' {
-        return b - b'a' + 10;
-    }
-    NO_DIGIT
 }
 
-pub fn digit_at(line: &[u8], at: usize) -> u8 {
+pub fn digit_at(line: &[u8], at: usize) -> u8
+    ensures { λ r. ⌜ r ≡ digitAt (now (line .entry)) at ⌝ }
+{
     if at < line.len() {
         return digit(line[at]);
     }
     NO_DIGIT
 }
 
-// Has the line ended at index `at`?
-pub fn ends(line: &[u8], at: usize) -> bool {
+// Does the line end at index `at`, or before it?
+pub fn at_end(line: &[u8], at: usize) -> bool
+    ensures { λ r. ⌜ r ≡ leb (length (now (line .entry))) at ⌝ }
+{
     line.len() <= at
 }
 
 // Is there a space at index `at`?
-pub fn is_space(line: &[u8], at: usize) -> bool {
+pub fn is_space(line: &[u8], at: usize) -> bool
+    ensures { λ r. ⌜ r ≡ isSpace (now (line .entry)) at ⌝ }
+{
     if at < line.len() {
         return line[at] == b' ';
     }
@@ -54,7 +62,9 @@ fn wide(b: u8) -> u32
 }
 
 // Reads the number at index `at`. It reads up to nine digits, so that a number with more than eight is rejected.
-pub fn number(line: &[u8], at: usize) -> Hex {
+pub fn number(line: &[u8], at: usize) -> Hex
+    ensures { λ r. ⌜ r ≡ numberAt (now (line .entry)) at ⌝ }
+{
     let mut value: u32 = 0;
     let mut count: usize = 0;
     while count < 9 {
@@ -73,7 +83,9 @@ pub fn number(line: &[u8], at: usize) -> Hex {
 }
 
 // Reads the number that follows one space at index `at`.
-pub fn next_number(line: &[u8], at: usize) -> Hex {
+pub fn next_number(line: &[u8], at: usize) -> Hex
+    ensures { λ r. ⌜ r ≡ nextNumber (now (line .entry)) at ⌝ }
+{
     if is_space(line, at) {
         return number(line, after(at, 1));
     }
@@ -84,13 +96,17 @@ pub fn next_number(line: &[u8], at: usize) -> Hex {
     }
 }
 
-// The index `count` bytes after `at`. No line is long enough for this to wrap.
-pub fn after(at: usize, count: usize) -> usize {
+// The index `count` bytes after `at`. It wraps at 2^64, and no line is that long.
+pub fn after(at: usize, count: usize) -> usize
+    ensures { λ r. ⌜ r ≡ (at + count) % 2 ^ 64 ⌝ }
+{
     std::num::wrapping_add_usize(at, count)
 }
 
 // The byte of two hex digits at index `at`, or 256 if there are not two digits.
-pub fn byte(line: &[u8], at: usize) -> u32 {
+pub fn byte(line: &[u8], at: usize) -> u32
+    ensures { λ r. ⌜ r ≡ byteAt (now (line .entry)) at ⌝ }
+{
     let high = digit_at(line, at);
     let low = digit_at(line, after(at, 1));
     if high == NO_DIGIT || low == NO_DIGIT {

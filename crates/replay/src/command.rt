@@ -28,7 +28,7 @@ fn unread(device: Device) -> Device {
 fn read(device: Device, line: &[u8]) -> Device {
     let width = digits::next_number(line, 1);
     let port = digits::next_number(line, width.next);
-    if width.ok && port.ok && digits::ends(line, port.next) {
+    if width.ok && port.ok && digits::at_end(line, port.next) {
         return access(
             device,
             Access {
@@ -47,7 +47,7 @@ fn write(device: Device, line: &[u8]) -> Device {
     let width = digits::next_number(line, 1);
     let port = digits::next_number(line, width.next);
     let value = digits::next_number(line, port.next);
-    if width.ok && port.ok && value.ok && digits::ends(line, value.next) {
+    if width.ok && port.ok && value.ok && digits::at_end(line, value.next) {
         return access(
             device,
             Access {
@@ -64,7 +64,7 @@ fn write(device: Device, line: &[u8]) -> Device {
 // E number
 fn event(device: Device, line: &[u8]) -> Device {
     let number = digits::next_number(line, 1);
-    if number.ok && digits::ends(line, number.next) {
+    if number.ok && digits::at_end(line, number.next) {
         let r = device.lone_event(number.value);
         let next = r.device;
         let outputs = r.outputs;
@@ -152,7 +152,7 @@ fn on_device(device: Device, line: &[u8], kind: u8) -> Device {
     if kind == b'L' {
         return load(device, line);
     }
-    if !digits::ends(line, 1) {
+    if !digits::at_end(line, 1) {
         return unread(device);
     }
     if kind == b'S' {

@@ -40,7 +40,7 @@ fn counters_from(line: &[u8], at: usize, counters: &mut [u32; 8]) -> usize {
 fn set_counters(session: Session, line: &[u8], at: usize, place: u32, used: usize) -> Session {
     let mut counters = [0u32; 8];
     let end = counters_from(line, at, &mut counters);
-    if !digits::ends(line, end) {
+    if !digits::at_end(line, end) {
         return unread(session);
     }
     let sequencer = Sequencer {
@@ -53,7 +53,7 @@ fn set_counters(session: Session, line: &[u8], at: usize, place: u32, used: usiz
 
 // Q, Q place used c0 c1 c2 c3 c4 c5 c6 c7
 pub fn set_sequencer(session: Session, line: &[u8]) -> Session {
-    if digits::ends(line, 1) {
+    if digits::at_end(line, 1) {
         return set_fresh(session);
     }
     let place = digits::next_number(line, 1);
@@ -191,7 +191,7 @@ pub fn run(session: Session, line: &[u8], compiles: bool) -> Session {
     if !bytes.ok {
         return unread(session);
     }
-    if !digits::ends(line, bytes.next) {
+    if !digits::at_end(line, bytes.next) {
         return unread(session);
     }
     let request = RunRequest {

@@ -43,7 +43,7 @@ pub fn run(line: &[u8]) {
         return;
     }
     let size = length.value as usize;
-    if digits::ends(line, length.next) {
+    if digits::at_end(line, length.next) {
         compile(line, 0, 0, size);
         return;
     }
@@ -52,7 +52,7 @@ pub fn run(line: &[u8]) {
         answer::unread();
         return;
     }
-    if !digits::ends(line, script.next) {
+    if !digits::at_end(line, script.next) {
         answer::unread();
         return;
     }
