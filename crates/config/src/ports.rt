@@ -39,10 +39,11 @@ impl Config {
     pub fn index_read(self) -> Answer
         ensures { λ r. ⌜ r ≡ indexRead self ⌝ }
     {
-        if self.unlocked {
-            return done(self.index);
+        let locked = !self.unlocked;
+        if locked {
+            return Answer::status_only(Answer::UNCLAIMED);
         }
-        Answer::status_only(Answer::UNCLAIMED)
+        done(self.index)
     }
 
     pub fn data_write(mut self, value: u8) -> AccessResult
