@@ -1,5 +1,7 @@
 // The record of 12 bytes that scripts and images share. See docs/CHIP.md, "Records".
 // `script` and `compiler` read the records of a script, `compiler` writes the words of an image, and `sequencer` reads them.
+pub mod word_kind;
+
 use little_endian::byte0;
 use little_endian::byte1;
 use little_endian::byte2;

@@ -5,6 +5,7 @@ use mathlib.Core.Bool.{cond}
 use mathlib.Core.List.{List, [], _∷_}
 use lib.Dec.{eqb}
 use Rattle.record.specs.declared.Record.{Record}
+use Rattle.script.specs.Kind as kind
 use Rattle.script.specs.Records.{recordsOf}
 
 -- the records of one level, in order; the last argument is what follows on this level
@@ -55,12 +56,12 @@ readIf port width mask broken = broken
 
 abbrev pub readRecord : Record → Reading → Reading
 readRecord r n =
-    cond (eqb (r .kind) 1) (before (write (r .port) (r .width) (r .value)) n)
-    (cond (eqb (r .kind) 2) (before (read (r .port) (r .width)) n)
-    (cond (eqb (r .kind) 3) (before (delay (r .value)) n)
-    (cond (eqb (r .kind) 4) (readRepeat (r .value) n)
-    (cond (eqb (r .kind) 5) (readIf (r .port) (r .width) (r .value) n)
-    (cond (eqb (r .kind) 6) (closedByElse done n) (cond (eqb (r .kind) 7) (closedByEnd done n) broken))))))
+    cond (eqb (r .kind) kind.write) (before (write (r .port) (r .width) (r .value)) n)
+    (cond (eqb (r .kind) kind.read) (before (read (r .port) (r .width)) n)
+    (cond (eqb (r .kind) kind.delay) (before (delay (r .value)) n)
+    (cond (eqb (r .kind) kind.repeat) (readRepeat (r .value) n)
+    (cond (eqb (r .kind) kind.if) (readIf (r .port) (r .width) (r .value) n)
+    (cond (eqb (r .kind) kind.else) (closedByElse done n) (cond (eqb (r .kind) kind.end) (closedByEnd done n) broken))))))
 
 abbrev pub readingOf : List Record → Reading
 readingOf [] = top done

@@ -9,7 +9,8 @@ ghost use lib.ListN.{length};
 ghost use Rattle.lists.specs.Stack.{stackOf};
 ghost use Rattle.record.specs.Record.{mostRecords, recordSize};
 ghost use Rattle.script.specs.Fields.{valueFields, readFields, countFields, noFields, kindFields};
-ghost use Rattle.script.specs.Refusals.{badLength, goodFields, innermost, misplaced, mostBlocks, openAfter, emitsWord};
+ghost use Rattle.script.specs.Kind as recordKind;
+ghost use Rattle.script.specs.Refusals.{badLength, goodFields, innermost, misplaced, mostBlocks, openAfter, openRepeat, emitsWord};
 ghost use Rattle.script.specs.Scan.{
   OpenArray,
   full,
@@ -207,7 +208,7 @@ fn place_fault(blocks: &[u8; MOST_BLOCKS], depth: usize, kind: u32) -> u32
 
 // How many open blocks are searched for repeats: all of them for a repeat, otherwise none.
 fn walk(depth: usize, kind: u32) -> usize
-    ensures { λ r. ⌜ r ≡ cond (eqb kind 4) depth 0 ⌝ }
+    ensures { λ r. ⌜ r ≡ cond (eqb kind recordKind.repeat) depth 0 ⌝ }
 {
     if kind == REPEAT {
         return depth;
@@ -217,7 +218,7 @@ fn walk(depth: usize, kind: u32) -> usize
 
 // 1 for a repeat, otherwise 0.
 fn is_repeat(block: u8) -> u32
-    ensures { λ r. ⌜ r ≡ cond (eqb block 4) 1 0 ⌝ }
+    ensures { λ r. ⌜ r ≡ cond (eqb block openRepeat) 1 0 ⌝ }
 {
     if block == OPEN_REPEAT {
         return 1;

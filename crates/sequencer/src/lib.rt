@@ -5,6 +5,7 @@ use device::AccessResult;
 use device::Device;
 use outcome::Refusal;
 use record::Record;
+use record::word_kind;
 use step::COUNTERS;
 use step::Sequencer;
 use step::execute;
@@ -224,7 +225,7 @@ fn run_words(
         if fault != 0 {
             return run_result(fault, steps, last.device, x, counters);
         }
-        if word.kind == word::HALT {
+        if word.kind == word_kind::HALT {
             return run_result(outcome::HALTED, steps + 1, last.device, x, counters);
         }
         if word::is_control(word) {
@@ -232,7 +233,7 @@ fn run_words(
             x.used = next.used;
             x.place = next.place;
             steps = count_step(steps);
-        } else if word.kind == word::DELAY {
+        } else if word.kind == word_kind::DELAY {
             let delayed = last.device
                 .apply_event(device::event::tick_event(word.value));
             last.device = delayed;
