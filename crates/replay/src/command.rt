@@ -8,7 +8,7 @@ use access::Access;
 use device::Device;
 
 fn access(device: Device, access: Access) -> Device {
-    let r = device.lone_access(access);
+    let r = device.single_access(access);
     let next = r.device;
     let outputs = r.outputs;
     if r.refusal == 0 {
@@ -65,7 +65,7 @@ fn write(device: Device, line: &[u8]) -> Device {
 fn event(device: Device, line: &[u8]) -> Device {
     let number = digits::next_number(line, 1);
     if number.ok && digits::ends(line, number.next) {
-        let r = device.lone_event(number.value);
+        let r = device.single_event(number.value);
         let next = r.device;
         let outputs = r.outputs;
         if r.refusal == 0 {

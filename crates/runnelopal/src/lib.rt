@@ -3,8 +3,8 @@
 use access::Access;
 use device::Device;
 use device::Outputs;
-use device::lone::LoneAccess;
-use device::lone::LoneEvent;
+use device::single::SingleAccess;
+use device::single::SingleEvent;
 use sequencer::RunResult;
 use step::Sequencer;
 ghost use mathlib.Core.Path.{_≡_};
@@ -131,7 +131,7 @@ pub extern "C" fn runnelopal_fresh(state: &mut [u8]) -> u32
     0
 }
 
-fn put_access(answer: &mut [u64], r: LoneAccess)
+fn put_access(answer: &mut [u64], r: SingleAccess)
     ensures { λ _. ⌜ now (answer .exit) ≡ numbered 0 (accessNumbers r) (now (answer .entry)) ⌝ }
 {
     let outputs = r.outputs;
@@ -141,7 +141,7 @@ fn put_access(answer: &mut [u64], r: LoneAccess)
     put_outputs(answer, 3, outputs);
 }
 
-fn put_event(answer: &mut [u64], r: LoneEvent)
+fn put_event(answer: &mut [u64], r: SingleEvent)
     ensures { λ _. ⌜ now (answer .exit) ≡ numbered 0 (eventNumbers r) (now (answer .entry)) ⌝ }
 {
     let outputs = r.outputs;
@@ -175,7 +175,7 @@ pub extern "C" fn runnelopal_access(
     let loaded = state::load(state);
     let device = loaded.device;
     if loaded.valid {
-        let r = device.lone_access(Access {
+        let r = device.single_access(Access {
             write,
             width,
             port,
@@ -186,7 +186,7 @@ pub extern "C" fn runnelopal_access(
         put_access(answer, r);
         return r.refusal;
     }
-    let r = device::lone::access_refused(outcome::BAD_STATE, device);
+    let r = device::single::access_refused(outcome::BAD_STATE, device);
     put_access(answer, r);
     r.refusal
 }
@@ -201,13 +201,13 @@ pub extern "C" fn runnelopal_event(state: &mut [u8], number: u32, answer: &mut [
     let loaded = state::load(state);
     let device = loaded.device;
     if loaded.valid {
-        let r = device.lone_event(number);
+        let r = device.single_event(number);
         let next = r.device;
         save_unless_refused(state, r.refusal, next);
         put_event(answer, r);
         return r.refusal;
     }
-    let r = device::lone::event_refused(outcome::BAD_STATE, device);
+    let r = device::single::event_refused(outcome::BAD_STATE, device);
     put_event(answer, r);
     r.refusal
 }

@@ -1,6 +1,6 @@
 -- `runnelopal_access` returns and saves what `savedAccess` says: bytes that are not a device are
 -- refused, and otherwise the device answers.
-use Rattle.device.specs.declared.lone.LoneAccess.{LoneAccess}
+use Rattle.device.specs.declared.single.SingleAccess.{SingleAccess}
 use mathlib.Core.Path.{ap, _∙_}
 use borrow.Author.Needs.{needs}
 use Rattle.runnelopal.proofs.Saved.{access-answered, access-no-state}
@@ -11,8 +11,8 @@ use Rattle.runnelopal.proofs.runnelopal_access.Tie as tie
 load-requires : tie.Need-load-requires
 load-requires c κs = search needs
 
-lone-access-requires : tie.Need-lone-access-requires
-lone-access-requires c κs = search needs
+single-access-requires : tie.Need-single-access-requires
+single-access-requires c κs = search needs
 
 save-unless-refused-requires : tie.Need-save-unless-refused-requires
 save-unless-refused-requires c κs = search needs
@@ -30,8 +30,8 @@ returns : tie.Need-returns
 returns c =
     let e =
     access-answered _ _ _ _ (c .before .before .before .before .before .before .before .before .before .before .before .before .load .ensures) (c .before .before .before .before .before .before .before .before .before .before .if1 .taken)
-    (c .before .before .before .before .before .before .before .before .before .lone-access .ensures) in (
-      ap (λ (x : LoneAccess). x .refusal) e,
+    (c .before .before .before .before .before .before .before .before .before .single-access .ensures) in (
+      ap (λ (x : SingleAccess). x .refusal) e,
       (c .before .before .before .before .before .before .save-unless-refused .ensures ∙ rw e, c .before .before .put-access .ensures ∙ rw e),
     )
 
@@ -51,7 +51,7 @@ returns-2 : tie.Need-returns-2
 returns-2 c =
     let refused = c .before .before .before .before .access-refused .ensures in
     let e = access-no-state _ (accessOf (c .before .before .before .before .before .before .before .before .before .before .before .args .write) (c .before .before .before .before .before .before .before .before .before .before .before .args .width) (c .before .before .before .before .before .before .before .before .before .before .before .args .port) (c .before .before .before .before .before .before .before .before .before .before .before .args .value)) _ _ (c .before .before .before .before .before .before .before .load .ensures) (c .before .before .before .before .before .if1 .left) refused in (
-      ap (λ (x : LoneAccess). x .refusal) e,
+      ap (λ (x : SingleAccess). x .refusal) e,
       (rw (← e, refused), c .before .before .put-access2 .ensures ∙ rw e),
     )
 
@@ -60,7 +60,7 @@ runnelopal-access-spec =
     tie.close
     (tie.spec
     load-requires
-    lone-access-requires
+    single-access-requires
     save-unless-refused-requires
     put-access-requires
     same-length

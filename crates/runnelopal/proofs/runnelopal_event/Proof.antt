@@ -1,6 +1,6 @@
 -- `runnelopal_event` returns and saves what `savedEvent` says: bytes that are not a device are
 -- refused, and otherwise the device answers.
-use Rattle.device.specs.declared.lone.LoneEvent.{LoneEvent}
+use Rattle.device.specs.declared.single.SingleEvent.{SingleEvent}
 use mathlib.Core.Path.{ap, _∙_}
 use borrow.Author.Needs.{needs}
 use Rattle.runnelopal.proofs.Saved.{event-answered, event-no-state}
@@ -10,8 +10,8 @@ use Rattle.runnelopal.proofs.runnelopal_event.Tie as tie
 load-requires : tie.Need-load-requires
 load-requires c κs = search needs
 
-lone-event-requires : tie.Need-lone-event-requires
-lone-event-requires c κs = search needs
+single-event-requires : tie.Need-single-event-requires
+single-event-requires c κs = search needs
 
 save-unless-refused-requires : tie.Need-save-unless-refused-requires
 save-unless-refused-requires c κs = search needs
@@ -29,8 +29,8 @@ returns : tie.Need-returns
 returns c =
     let e =
     event-answered _ _ _ _ (c .before .before .before .before .before .before .before .before .before .before .before .before .load .ensures) (c .before .before .before .before .before .before .before .before .before .before .if1 .taken)
-    (c .before .before .before .before .before .before .before .before .before .lone-event .ensures) in (
-      ap (λ (x : LoneEvent). x .refusal) e,
+    (c .before .before .before .before .before .before .before .before .before .single-event .ensures) in (
+      ap (λ (x : SingleEvent). x .refusal) e,
       (c .before .before .before .before .before .before .save-unless-refused .ensures ∙ rw e, c .before .before .put-event .ensures ∙ rw e),
     )
 
@@ -50,7 +50,7 @@ returns-2 : tie.Need-returns-2
 returns-2 c =
     let refused = c .before .before .before .before .event-refused .ensures in
     let e = event-no-state _ (c .before .before .before .before .before .before .before .before .before .before .before .args .number) _ _ (c .before .before .before .before .before .before .before .load .ensures) (c .before .before .before .before .before .if1 .left) refused in (
-      ap (λ (x : LoneEvent). x .refusal) e,
+      ap (λ (x : SingleEvent). x .refusal) e,
       (rw (← e, refused), c .before .before .put-event2 .ensures ∙ rw e),
     )
 
@@ -59,7 +59,7 @@ runnelopal-event-spec =
     tie.close
     (tie.spec
     load-requires
-    lone-event-requires
+    single-event-requires
     save-unless-refused-requires
     put-event-requires
     same-length
