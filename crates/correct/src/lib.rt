@@ -11,7 +11,7 @@ ghost use lib.ListN.{length, take};
 ghost use Rattle.record.specs.Record.{mostRecords, recordSize};
 ghost use Rattle.sequencer.specs.Run.{runAnswer, logAfter};
 ghost use Rattle.step.specs.Sequencer.{freshSequencer};
-ghost use Rattle.correct.specs.CompileAndRun.{wholeAnswer, wholeLog};
+ghost use Rattle.correct.specs.CompileAndRun.{compileAndRunResult, compileAndRunLog};
 
 fn index(words: u32) -> usize
     ensures { λ r. ⌜ r ≡ words ⌝ }
@@ -46,7 +46,7 @@ fn run_script(
     log: &mut [u32],
 ) -> RunResult
     requires { ⌜ 12288 ≤ length (now image) ⌝ }
-    ensures { λ r. ⌜ (r ≡ wholeAnswer (now (script .entry)) device (now (events .entry)) budget (now (log .entry))) × (now (log .exit) ≡ wholeLog (now (script .entry)) device (now (events .entry)) budget (now (log .entry))) ⌝ }
+    ensures { λ r. ⌜ (r ≡ compileAndRunResult (now (script .entry)) device (now (events .entry)) budget (now (log .entry))) × (now (log .exit) ≡ compileAndRunLog (now (script .entry)) device (now (events .entry)) budget (now (log .entry))) ⌝ }
 {
     let compiled = compiler::compile(script, image);
     if compiled.refusal != 0 {
@@ -72,7 +72,7 @@ pub fn compile_and_run(
     budget: u32,
     log: &mut [u32],
 ) -> RunResult
-    ensures { λ r. ⌜ (r ≡ wholeAnswer (now (script .entry)) device (now (events .entry)) budget (now (log .entry))) × (now (log .exit) ≡ wholeLog (now (script .entry)) device (now (events .entry)) budget (now (log .entry))) ⌝ }
+    ensures { λ r. ⌜ (r ≡ compileAndRunResult (now (script .entry)) device (now (events .entry)) budget (now (log .entry))) × (now (log .exit) ≡ compileAndRunLog (now (script .entry)) device (now (events .entry)) budget (now (log .entry))) ⌝ }
 {
     let mut image = [0u8; 12288];
     run_script(script, &mut image, device, events, budget, log)

@@ -207,7 +207,7 @@ fn place_fault(blocks: &[u8; MOST_BLOCKS], depth: usize, kind: u32) -> u32
 }
 
 // How many open blocks are searched for repeats: all of them for a repeat, otherwise none.
-fn walk(depth: usize, kind: u32) -> usize
+fn blocks_to_search(depth: usize, kind: u32) -> usize
     ensures { λ r. ⌜ r ≡ cond (eqb kind recordKind.repeat) depth 0 ⌝ }
 {
     if kind == REPEAT {
@@ -299,10 +299,10 @@ fn scan_records(script: &[u8], count: usize) -> ScanResult
                 break 'scan;
             }
         }
-        let walk = walk(depth, kind);
+        let searched = blocks_to_search(depth, kind);
         let mut repeats: u32 = 0;
         let mut b: usize = 0;
-        while b < walk {
+        while b < searched {
             repeats = repeats + is_repeat(blocks[b]);
             if repeats == MOST_REPEATS {
                 number = outcome::TOO_DEEP;

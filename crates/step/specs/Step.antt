@@ -78,12 +78,12 @@ execute r m =
 
 -- ---- one step, without the budget
 pub data Step : Type 0 where
-  goesOn : Machine → Step
+  continues : Machine → Step
   halts : Step
   faults : ℕ → Step
 
 abbrev pub stepFrom : Record → ℕ → Machine → Step
-stepFrom r fault m = cond (eqb fault 0) (cond (eqb (r .kind) wordKind.halt) halts (goesOn (execute r m))) (faults fault)
+stepFrom r fault m = cond (eqb fault 0) (cond (eqb (r .kind) wordKind.halt) halts (continues (execute r m))) (faults fault)
 
 abbrev pub faultAt : List ℕ → ℕ → Machine → ℕ
 faultAt image room m =
