@@ -15,6 +15,7 @@ use Rattle.compiler.specs.declared.CompileResult.{CompileResult}
 use Rattle.device.specs.Device.{deviceInRange}
 use Rattle.device.specs.declared.Device.{Device}
 use Rattle.mask.proofs.Every.{and-left, and-right}
+use Rattle.record.specs.Record.{mostRecords, recordSize}
 use Rattle.script.proofs.Flat.{accepts}
 use Rattle.script.specs.Refusals.{scriptRefusal, wordsIn}
 use Rattle.outcome.specs.Refusal.{refusal}
@@ -30,7 +31,7 @@ use Rattle.correct.proofs.CompileAndRun.{fresh-in-range, good-image, wh
 
 -- ---- a refusal by the compiler; it is never 9, because the buffer of 12,288 bytes is long enough for 1,024 words
 script-refused :
-    (script buffer : List ℕ) → 12288 ≤ length buffer → (compileResult script buffer .refusal ≡ 0 → ⊥)
+    (script buffer : List ℕ) → recordSize * mostRecords ≤ length buffer → (compileResult script buffer .refusal ≡ 0 → ⊥)
     → scriptRefusal script .number ≡ 0 → ⊥
 script-refused script buffer l n z =
     n (accepts-all script buffer z (let w = accepts script z .few-words in omega (arith, w, l)))
@@ -47,7 +48,7 @@ compile-is-script script buffer n = rw (ne-eqb (scriptRefusal script .number) 0 
 
 pub compiler-refuses :
     (script buffer : List ℕ) (d : Device) (events : List ℕ) (budget : ℕ) (log : List ℕ) (c : CompileResult)
-    → 12288 ≤ length buffer → c ≡ compileResult script buffer → (c .refusal ≡ 0 → ⊥)
+    → recordSize * mostRecords ≤ length buffer → c ≡ compileResult script buffer → (c .refusal ≡ 0 → ⊥)
     → (refusedRun (refusal (c .refusal) (c .place)) d freshSequencer ≡ compileAndRunResult script d events budget log)
     × (log ≡ compileAndRunLog script d events budget log)
 unfolding compileAndRunResult compileAndRunLog compileResult

@@ -10,6 +10,8 @@ use Rattle.compiler.specs.Words.{imageBytes, wordsOf}
 use Rattle.device.specs.Device.{deviceInRange}
 use Rattle.device.specs.declared.Device.{Device}
 use Rattle.script.specs.Refusals.{scriptRefusal, wordsIn}
+use Rattle.outcome.specs.Ending as ending
+use Rattle.outcome.specs.Number as number
 use Rattle.outcome.specs.Refusal.{refusal}
 use Rattle.outcome.specs.declared.Refusal.{Refusal}
 use Rattle.semantics.specs.OwnRun.{Run, scriptRun}
@@ -22,7 +24,7 @@ use Rattle.sequencer.specs.declared.RunResult.{RunResult}
 -- in this order: refusals 1 to 8 of the compiler, 11 for the device, 12
 unfoldable pub compileAndRunRefusal : List ℕ → Device → List ℕ → Refusal
 compileAndRunRefusal script d events =
-    cond (eqb (scriptRefusal script .number) 0) (cond (deviceInRange d) (eventsRefusal events) (refusal 11 0))
+    cond (eqb (scriptRefusal script .number) 0) (cond (deviceInRange d) (eventsRefusal events) (refusal number.badState 0))
     (scriptRefusal script)
 
 -- "Whenever the log has room for the values that run logs, and the budget is no smaller than its step count"
@@ -31,7 +33,7 @@ suffices own budget room = leb (length (own .world .logged)) room && leb (own .s
 
 -- the script's own run as the end of a run: halted, on the last word, with no counter in use
 abbrev pub ownEnd : List ℕ → Run → RunEnd
-ownEnd script own = runEnd 0 (own .steps) (machine (wordsIn script - 1) [] (own .world))
+ownEnd script own = runEnd ending.halted (own .steps) (machine (wordsIn script - 1) [] (own .world))
 
 -- the script's own run or, if the log or the budget is too small for it, the run of the image
 unfoldable pub compileAndRunEnd : List ℕ → Device → List ℕ → (budget room : ℕ) → RunEnd

@@ -28,6 +28,9 @@ impl Record {
 
     // The largest number of records in a script and of words in an image.
     pub const MOST: usize = 1024;
+
+    // The largest count: the ticks of a delay, or how many times a repeat runs. So it is the largest loop counter too.
+    pub const MOST_TURNS: u32 = 65535;
     // The marks as numbers. In the bytes they are 5Ah A5h and C3h 3Ch.
     pub const SCRIPT_MARK: u32 = 0xA55A;
 

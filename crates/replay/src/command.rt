@@ -90,13 +90,16 @@ fn state_bytes(line: &[u8], bytes: &mut [u8; state::SIZE]) -> bool {
     true
 }
 
+// The length of a command `L`: two characters, and two digits for each byte.
+const LOAD_LINE: usize = 2 + 2 * state::SIZE;
+
 // L bytes
 fn load(device: Device, line: &[u8]) -> Device {
     let mut bytes = [0u8; state::SIZE];
     if !digits::is_space(line, 1) {
         return unread(device);
     }
-    if line.len() != 214 {
+    if line.len() != LOAD_LINE {
         return unread(device);
     }
     if !state_bytes(line, &mut bytes) {

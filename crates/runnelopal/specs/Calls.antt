@@ -11,6 +11,7 @@ use Rattle.device.specs.declared.Device.{Device}
 use Rattle.device.specs.declared.Outputs.{Outputs}
 use Rattle.device.specs.declared.single.SingleAccess.{SingleAccess}
 use Rattle.device.specs.declared.single.SingleEvent.{SingleEvent}
+use Rattle.outcome.specs.Number as number
 use Rattle.sequencer.specs.Run.{isRefusal, runAnswer}
 use Rattle.step.specs.Sequencer.{freshSequencer}
 use Rattle.sequencer.specs.declared.RunResult.{RunResult}
@@ -40,11 +41,11 @@ outputNumbers o = flagByte (o .sci) ∷ flagByte (o .smi) ∷ flagByte (o .monit
 -- ---- a saved device: bytes that are not a device are refused with 11, like a device that is not valid
 unfoldable pub savedAccess : List ℕ → Access → SingleAccess
 savedAccess state x =
-    cond (loaded state .valid) (singleAccess (loaded state .device) x) (accessRefused 11 (loaded state .device))
+    cond (loaded state .valid) (singleAccess (loaded state .device) x) (accessRefused number.badState (loaded state .device))
 
 unfoldable pub savedEvent : List ℕ → ℕ → SingleEvent
 savedEvent state n =
-    cond (loaded state .valid) (singleEvent (loaded state .device) n) (eventRefused 11 (loaded state .device))
+    cond (loaded state .valid) (singleEvent (loaded state .device) n) (eventRefused number.badState (loaded state .device))
 
 -- a refusal leaves the state unchanged
 abbrev pub savedUnlessRefused : ℕ → Device → List ℕ → List ℕ

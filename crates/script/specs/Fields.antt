@@ -3,6 +3,7 @@
 use Prim.Native.Nat.{ℕ}
 use mathlib.Core.Bool.{Bool, cond, _&&_, _||_}
 use lib.Dec.{eqb, leb}
+use Rattle.record.specs.Record.{mostTurns}
 use Rattle.record.specs.declared.Record.{Record}
 use Rattle.script.specs.Kind as kind
 use Rattle.width.specs.Width.{fitsWidth, isWidth}
@@ -15,9 +16,9 @@ valueFields r = isWidth (r .width) && fitsWidth (r .width) (r .value)
 abbrev pub readFields : Record → Bool
 readFields r = isWidth (r .width) && eqb (r .value) 0
 
--- a value of at most 65,535: delay, repeat; word 4 (enter)
+-- a count of at most 65,535: delay, repeat; word 4 (enter)
 abbrev pub countFields : Record → Bool
-countFields r = eqb (r .width) 0 && (eqb (r .port) 0 && leb (r .value) 65535)
+countFields r = eqb (r .width) 0 && (eqb (r .port) 0 && leb (r .value) mostTurns)
 
 -- no field: else, end; words 5 (loop end), 7 (jump) and 8 (halt)
 abbrev pub noFields : Record → Bool

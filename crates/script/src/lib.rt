@@ -77,7 +77,7 @@ pub fn read_fields(r: Record) -> bool
     false
 }
 
-// A value of at most 65,535: delay, repeat, and the word enter.
+// A count of at most 65,535: delay, repeat, and the word enter.
 pub fn count_fields(r: Record) -> bool
     ensures { λ b. ⌜ b ≡ countFields r ⌝ }
 {
@@ -87,7 +87,7 @@ pub fn count_fields(r: Record) -> bool
     if r.port != 0 {
         return false;
     }
-    r.value <= 65535
+    r.value <= Record::MOST_TURNS
 }
 
 // No field: else, end, and the words loop end, jump and halt.

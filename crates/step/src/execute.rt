@@ -7,8 +7,10 @@ use record::word_kind;
 ghost use mathlib.Core.Path.{_≡_};
 ghost use Prim.Native.Nat.{_≤_, _<_};
 ghost use lib.ListN.{length, drop};
+ghost use Rattle.record.specs.Record.{mostRecords};
 ghost use Rattle.record.specs.WordKind as wordKind;
 ghost use Rattle.semantics.specs.World.{eventsAfter, readOf, writeOf};
+ghost use Rattle.step.specs.Sequencer.{counterCount};
 ghost use Rattle.step.specs.Represents.{ImplementsAccess, AccessReady, ControlReady, KeepsDevice, KeepsCounters, accessOf};
 
 // The state of a run, besides its device and its counters: the place of the next word, and the numbers of counters in use, of
@@ -75,7 +77,7 @@ pub struct ControlResult {
 impl Position {
     // A count of 0 jumps over the loop and pushes no counter.
     fn enter(self, word: Record, counters: &mut [u32; COUNTERS]) -> ControlResult
-        requires { ⌜ (self .place < 4096) × (word .kind ≡ wordKind.enter) × (8 ≤ self .used → word .value ≡ 0) ⌝ }
+        requires { ⌜ (self .place < mostRecords) × (word .kind ≡ wordKind.enter) × (counterCount ≤ self .used → word .value ≡ 0) ⌝ }
         ensures { λ r. ⌜ KeepsDevice word self (now (counters .entry)) r (now (counters .exit)) ⌝ }
     {
         let used = self.used;
@@ -96,7 +98,7 @@ impl Position {
 
     // Subtracts 1 from the top counter. A counter that reaches 0 is popped.
     fn loop_end(self, word: Record, counters: &mut [u32; COUNTERS]) -> ControlResult
-        requires { ⌜ (self .place < 4096) × (word .kind ≡ wordKind.loopEnd) × (0 < self .used) × (self .used ≤ 8) ⌝ }
+        requires { ⌜ (self .place < mostRecords) × (word .kind ≡ wordKind.loopEnd) × (0 < self .used) × (self .used ≤ counterCount) ⌝ }
         ensures { λ r. ⌜ KeepsDevice word self (now (counters .entry)) r (now (counters .exit)) ⌝ }
     {
         let top = self.used - 1;
@@ -124,7 +126,7 @@ impl Position {
     }
 
     pub fn execute_control(self, word: Record, counters: &mut [u32; COUNTERS]) -> ControlResult
-        requires { ⌜ (self .place < 4096) × ControlReady self word ⌝ }
+        requires { ⌜ (self .place < mostRecords) × ControlReady self word ⌝ }
         ensures { λ r. ⌜ KeepsDevice word self (now (counters .entry)) r (now (counters .exit)) ⌝ }
     {
         let kind = word.kind;
@@ -144,7 +146,7 @@ impl Position {
     // Completes a write, a read or a test whose access returned `value`: counts its event, logs the value of a read, and moves to
     // the next place. A test whose mask has no common 1 with the value jumps.
     pub fn apply_answer(mut self, word: Record, value: u32, events: &[u32], log: &mut [u32]) -> Self
-        requires { ⌜ (self .place < 4096) × (self .taken ≤ length (now events)) × AccessReady self word (now log) ⌝ }
+        requires { ⌜ (self .place < mostRecords) × (self .taken ≤ length (now events)) × AccessReady self word (now log) ⌝ }
         ensures { λ r. ⌜ ImplementsAccess word value (now (events .entry)) self (now (log .entry)) r (now (log .exit)) ⌝ }
     {
         let kind = word.kind;

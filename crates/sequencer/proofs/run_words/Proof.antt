@@ -19,6 +19,7 @@ use Rattle.step.specs.Sequencer.{countersOf, counterArray}
 use Rattle.step.specs.Step.{wordFault}
 use Rattle.step.specs.Word.{imageWords}
 use Rattle.step.specs.declared.Sequencer.{Sequencer}
+use Rattle.record.specs.Record.{mostRecords}
 use Rattle.record.specs.declared.Record.{Record}
 use Rattle.semantics.specs.World.{afterNextEvent}
 use Rattle.sequencer.specs.Ends.{Starts}
@@ -86,7 +87,7 @@ invariant l = l .loop .inv (start-of l .args .sequencer) (l .before .before .sta
 abbrev word : AfterFetch → Record
 word f = f .before .read .result
 
-place-small : (f : AfterFetch) → head-of f .loop .position .place < 4096
+place-small : (f : AfterFetch) → head-of f .loop .position .place < mostRecords
 place-small f = omega (arith, f .before .before .before .if1 .left, start-of (head-of f) .pre .0)
 
 in-budget : (f : AfterFetch) → head-of f .loop .steps < start-of (head-of f) .args .budget
