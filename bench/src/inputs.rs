@@ -245,7 +245,7 @@ pub fn many_events() -> Vec<u32> {
     list.into_iter().cycle().take(sequencer::EVENT_LIMIT).collect()
 }
 
-// ---- lone calls
+// ---- single calls
 
 /// The state after a set-up without the final lock.
 pub fn start() -> StateBytes {
@@ -258,12 +258,12 @@ pub fn start() -> StateBytes {
     state::encode(&device)
 }
 
-pub fn lone_reads() -> Vec<Access> {
+pub fn single_reads() -> Vec<Access> {
     let access = |(width, port)| Access { width: u32::from(width), port: u32::from(port), written: None };
     read_list().into_iter().map(access).collect()
 }
 
-pub fn lone_writes() -> Vec<Access> {
+pub fn single_writes() -> Vec<Access> {
     let access =
         |(width, port, value)| Access { width: u32::from(width), port: u32::from(port), written: Some(value) };
     set_up_list().into_iter().chain([(4, TIMER, 0), (1, NOBODY, 0)]).map(access).collect()

@@ -41,8 +41,8 @@ impl Row {
 
 const COMPILE: &str = "Compile, 1,023 records";
 const RUN: &str = "Runs";
-const LONE: &str = "Lone calls: ours load and save the state's bytes at each call, theirs keep a struct";
-const LONE_BYTES: &str = "Lone calls: both load and save the state's bytes at each call";
+const SINGLE: &str = "Single calls: ours load and save the state's bytes at each call, theirs keep a struct";
+const SINGLE_BYTES: &str = "Single calls: both load and save the state's bytes at each call";
 const COMPILE_GROWTH: &str = "How a compile grows";
 const RUN_GROWTH: &str = "How a run grows";
 
@@ -88,27 +88,27 @@ pub fn rows(size: Size) -> Vec<Row> {
     }
     rows.push(events);
 
-    let lone_times = small(20_000, 500) as usize;
+    let single_times = small(20_000, 500) as usize;
     let access = |group, name: &str, list: Vec<_>, held| Row {
         group,
         name: name.to_string(),
-        work: Work::Accesses { start: inputs::start(), list, times: lone_times, held },
+        work: Work::Accesses { start: inputs::start(), list, times: single_times, held },
     };
     let event = |group, name: &str, list: Vec<_>, held| Row {
         group,
         name: name.to_string(),
-        work: Work::Events { start: inputs::start(), list, times: lone_times, held },
+        work: Work::Events { start: inputs::start(), list, times: single_times, held },
     };
     rows.extend([
-        access(LONE, "reads, all blocks", inputs::lone_reads(), Held::Struct),
-        access(LONE, "writes, all blocks", inputs::lone_writes(), Held::Struct),
-        event(LONE, "ticks", inputs::ticks(), Held::Struct),
-        event(LONE, "pins", inputs::pins(), Held::Struct),
-        event(LONE, "alarm, bus master, sensors, button", inputs::alarms(), Held::Struct),
-        event(LONE, "resets", inputs::resets(), Held::Struct),
-        access(LONE_BYTES, "reads, all blocks, from bytes", inputs::lone_reads(), Held::Bytes),
-        access(LONE_BYTES, "writes, all blocks, from bytes", inputs::lone_writes(), Held::Bytes),
-        event(LONE_BYTES, "every event, from bytes", inputs::every_event(), Held::Bytes),
+        access(SINGLE, "reads, all blocks", inputs::single_reads(), Held::Struct),
+        access(SINGLE, "writes, all blocks", inputs::single_writes(), Held::Struct),
+        event(SINGLE, "ticks", inputs::ticks(), Held::Struct),
+        event(SINGLE, "pins", inputs::pins(), Held::Struct),
+        event(SINGLE, "alarm, bus master, sensors, button", inputs::alarms(), Held::Struct),
+        event(SINGLE, "resets", inputs::resets(), Held::Struct),
+        access(SINGLE_BYTES, "reads, all blocks, from bytes", inputs::single_reads(), Held::Bytes),
+        access(SINGLE_BYTES, "writes, all blocks, from bytes", inputs::single_writes(), Held::Bytes),
+        event(SINGLE_BYTES, "every event, from bytes", inputs::every_event(), Held::Bytes),
     ]);
 
     for records in [64, 128, 256, 512, MOST_RECORDS] {

@@ -159,8 +159,8 @@ fn our_accesses(start: &state::StateBytes, list: &[Access], times: usize) -> Don
 
 fn their_access(device: &mut Device, access: &Access) -> u64 {
     let answer = match access.written {
-        None => device.lone_read(access.width, access.port),
-        Some(value) => device.lone_write(access.width, access.port, value),
+        None => device.single_read(access.width, access.port),
+        Some(value) => device.single_write(access.width, access.port, value),
     };
     let answer = answer.expect("the access is valid");
     let on = device.outputs();
@@ -206,7 +206,7 @@ fn our_events(start: &state::StateBytes, list: &[u32], times: usize) -> Done {
 
 fn their_events(start: &state::StateBytes, list: &[u32], times: usize, held: Held) -> Done {
     each(start, list, times, held, |device, number| {
-        device.lone_event(*number).expect("the event is valid");
+        device.single_event(*number).expect("the event is valid");
         let on = device.outputs();
         outputs(on.sci, on.smi, on.monitor)
     })

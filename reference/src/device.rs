@@ -217,13 +217,13 @@ impl Device {
     }
 
     /// A single read. Refusals: 11, then 4.
-    pub fn lone_read(&mut self, width: u32, port: u32) -> Result<Answer, Refusal> {
+    pub fn single_read(&mut self, width: u32, port: u32) -> Result<Answer, Refusal> {
         let (width, port) = self.accepted(width, port)?;
         Ok(self.answer_read(width, port))
     }
 
     /// A single write. Refusals: 11, then 4.
-    pub fn lone_write(&mut self, width: u32, port: u32, value: u32) -> Result<Answer, Refusal> {
+    pub fn single_write(&mut self, width: u32, port: u32, value: u32) -> Result<Answer, Refusal> {
         let (width, port) = self.accepted(width, port)?;
         if value > width.all_ones() {
             return Err(Refusal::BadAccess);
@@ -232,7 +232,7 @@ impl Device {
     }
 
     /// A single event. Refusals: 11, then 12.
-    pub fn lone_event(&mut self, number: u32) -> Result<(), Refusal> {
+    pub fn single_event(&mut self, number: u32) -> Result<(), Refusal> {
         if !self.in_range() {
             return Err(Refusal::StateOutOfRange);
         }

@@ -364,15 +364,15 @@ impl Session {
     fn execute(&mut self, command: Command) -> Result<Reply, Refusal> {
         match command {
             Command::Read { width, port } => {
-                let answer = self.device.lone_read(width, port)?;
+                let answer = self.device.single_read(width, port)?;
                 Ok(Reply::Access(answer, self.device.outputs()))
             }
             Command::Write { width, port, value } => {
-                let answer = self.device.lone_write(width, port, value)?;
+                let answer = self.device.single_write(width, port, value)?;
                 Ok(Reply::Access(answer, self.device.outputs()))
             }
             Command::Event(number) => {
-                self.device.lone_event(number)?;
+                self.device.single_event(number)?;
                 Ok(Reply::Event(self.device.outputs()))
             }
             Command::Outputs => Ok(Reply::Outputs(self.device.outputs())),

@@ -13,7 +13,7 @@ const VBAT_RESET: u32 = 0x0600_0003;
 
 fn read(device: &mut Device, width: u32, port: u32) -> (u32, u32) {
     let answer = device
-        .lone_read(width, port)
+        .single_read(width, port)
         .expect("the read is not refused");
     (answer.status, answer.value)
 }
@@ -21,14 +21,14 @@ fn read(device: &mut Device, width: u32, port: u32) -> (u32, u32) {
 /// Writes and returns the status. The answer to a write has the value 0.
 fn write(device: &mut Device, width: u32, port: u32, value: u32) -> u32 {
     let answer = device
-        .lone_write(width, port, value)
+        .single_write(width, port, value)
         .expect("the write is not refused");
     assert_eq!(answer.value, 0);
     answer.status
 }
 
 fn event(device: &mut Device, number: u32) {
-    device.lone_event(number).expect("the event is not refused");
+    device.single_event(number).expect("the event is not refused");
 }
 
 fn configure(device: &mut Device, index: u32, value: u32) -> u32 {
@@ -420,11 +420,11 @@ fn acpi_takes_each_offset_at_its_width() {
 #[test]
 fn refusals_come_in_order() {
     let mut device = Device::fresh();
-    assert_eq!(device.lone_read(3, 0x2E), Err(Refusal::BadAccess));
-    assert_eq!(device.lone_read(1, 0x1_0000), Err(Refusal::BadAccess));
-    assert_eq!(device.lone_write(1, 0x2E, 0x155), Err(Refusal::BadAccess));
+    assert_eq!(device.single_read(3, 0x2E), Err(Refusal::BadAccess));
+    assert_eq!(device.single_read(1, 0x1_0000), Err(Refusal::BadAccess));
+    assert_eq!(device.single_write(1, 0x2E, 0x155), Err(Refusal::BadAccess));
     assert_eq!(
-        device.lone_write(4, 0x2E, u32::MAX),
+        device.single_write(4, 0x2E, u32::MAX),
         Ok(Answer {
             status: 1,
             value: 0
@@ -439,12 +439,12 @@ fn refusals_come_in_order() {
         0x0600_0004,
         0x0800_0000,
     ] {
-        assert_eq!(device.lone_event(number), Err(Refusal::BadEvent));
+        assert_eq!(device.single_event(number), Err(Refusal::BadEvent));
     }
     assert_eq!(device, Device::fresh());
     device.acpi.timer = 1 << 24;
-    assert_eq!(device.lone_read(3, 0x2E), Err(Refusal::StateOutOfRange));
-    assert_eq!(device.lone_event(0), Err(Refusal::StateOutOfRange));
+    assert_eq!(device.single_read(3, 0x2E), Err(Refusal::StateOutOfRange));
+    assert_eq!(device.single_event(0), Err(Refusal::StateOutOfRange));
 }
 
 #[test]

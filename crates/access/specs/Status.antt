@@ -11,10 +11,10 @@ use Rattle.access.specs.declared.Answer.{Answer}
 abbrev pub done : ℕ → Answer
 done v = record { status = 0; value = v }
 
--- a write, or a read that is not done; the device replaces the value of such a read by `readGives`
+-- a write, or a read that is not done; the device replaces the value of such a read by `readValue`
 abbrev pub statusOnly : ℕ → Answer
 statusOnly s = record { status = s; value = 0 }
 
 -- "Read gives": the value at status 0, "all ones of the width" at status 1, otherwise 0
-unfoldable pub readGives : ℕ → ℕ → ℕ → ℕ
-readGives status width value = cond (eqb status 0) value (cond (eqb status 1) (allOnes width) 0)
+unfoldable pub readValue : ℕ → ℕ → ℕ → ℕ
+readValue status width value = cond (eqb status 0) value (cond (eqb status 1) (allOnes width) 0)

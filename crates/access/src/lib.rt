@@ -2,7 +2,7 @@
 // The register blocks take an `Access` and return an `Answer`. `device` passes the access to the block that owns the port.
 ghost use mathlib.Core.Path.{_≡_};
 ghost use Rattle.access.specs.Block.{takesByte};
-ghost use Rattle.access.specs.Status.{done, statusOnly, readGives};
+ghost use Rattle.access.specs.Status.{done, statusOnly, readValue};
 
 // `value` is the value to write. A read ignores it.
 pub struct Access {
@@ -56,8 +56,8 @@ pub fn takes_byte(width: u32) -> bool
 }
 
 // The value that a read returns: `value` at status 0, all ones of the width at status 1, otherwise 0.
-pub fn read_gives(status: u32, width: u32, value: u32) -> u32
-    ensures { λ r. ⌜ r ≡ readGives status width value ⌝ }
+pub fn read_value(status: u32, width: u32, value: u32) -> u32
+    ensures { λ r. ⌜ r ≡ readValue status width value ⌝ }
 {
     if status == Answer::DONE {
         return value;

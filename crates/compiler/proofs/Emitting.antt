@@ -14,7 +14,7 @@ use Rattle.script.specs.Records.{recordCount, recordsFrom, recordsOf}
 use Rattle.script.specs.Refusals.{innermost, scriptRefusal}
 use Rattle.script.proofs.Flat.{accepts}
 use Rattle.script.proofs.Records.{Counted, after-last, counts, from-here}
-use Rattle.compiler.specs.Emit.{lookAhead, TargetsFrom, emitFlat, framesAfter, emitsWord, targetFor, wordFor, wordKind}
+use Rattle.compiler.specs.Emit.{lookAhead, TargetsFrom, emitFlat, framesAfter, emitsWord, targetFor, wordFor, wordKindFor}
 use Rattle.compiler.specs.Words.{halt, imageBytes, word, wordsOf}
 use Rattle.compiler.proofs.Ahead.{emit-script}
 use Rattle.compiler.proofs.Image.{one-more-word}
@@ -118,7 +118,7 @@ module _ {script lent targets image : List ℕ} {count place k : ℕ} (g : Emitt
 
     -- it becomes a word, which is written
     pub goes-on : {w : Record} {now : List ℕ} → emitsWord (getD targets k 0) (r .kind) ≡ true
-        → w ≡ word (wordKind (r .kind)) (r .width) (r .port) (getD targets k 0) (r .value)
+        → w ≡ word (wordKindFor (r .kind)) (r .width) (r .port) (getD targets k 0) (r .value)
         → now ≡ take (recordSize * place) image ++ (bytesOf w ++ drop recordSize (drop (recordSize * place) image)) → length now ≡ length image
         → Emitting script lent targets now count (place + 1) (k + 1)
     goes-on {w = w} b m i l =

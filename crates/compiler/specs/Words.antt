@@ -3,6 +3,7 @@
 use Prim.Native.Nat.{ℕ, suc}
 use mathlib.Core.List.{List, [], _∷_, _++_}
 use Rattle.record.specs.Record.{bytesOf}
+use Rattle.record.specs.WordKind as wordKind
 use Rattle.record.specs.declared.Record.{Record}
 use Rattle.script.specs.Nested.{Body, done, write, read, delay, repeat, if, ifElse, scriptBody}
 
@@ -24,23 +25,23 @@ placeAfter at (ifElse p w m b c rest) = placeAfter (placeAfter (suc (placeAfter 
 -- test behind its else's jump or at its end, else at its end."
 abbrev pub emit : ℕ → Body → List Record → List Record
 emit at done ws = ws
-emit at (write p w v rest) ws = word 1 w p 0 v ∷ emit (suc at) rest ws
-emit at (read p w rest) ws = word 2 w p 0 0 ∷ emit (suc at) rest ws
-emit at (delay n rest) ws = word 3 0 0 0 n ∷ emit (suc at) rest ws
+emit at (write p w v rest) ws = word wordKind.write w p 0 v ∷ emit (suc at) rest ws
+emit at (read p w rest) ws = word wordKind.read w p 0 0 ∷ emit (suc at) rest ws
+emit at (delay n rest) ws = word wordKind.delay 0 0 0 n ∷ emit (suc at) rest ws
 emit at (repeat n b rest) ws =
-    word 4 0 0 (suc (placeAfter (suc at) b)) n
-    ∷ emit (suc at) b (word 5 0 0 (suc at) 0 ∷ emit (suc (placeAfter (suc at) b)) rest ws)
+    word wordKind.enter 0 0 (suc (placeAfter (suc at) b)) n
+    ∷ emit (suc at) b (word wordKind.loopEnd 0 0 (suc at) 0 ∷ emit (suc (placeAfter (suc at) b)) rest ws)
 emit at (if p w m b rest) ws =
-    word 6 w p (placeAfter (suc at) b) m ∷ emit (suc at) b (emit (placeAfter (suc at) b) rest ws)
+    word wordKind.test w p (placeAfter (suc at) b) m ∷ emit (suc at) b (emit (placeAfter (suc at) b) rest ws)
 emit at (ifElse p w m b c rest) ws =
-    word 6 w p (suc (placeAfter (suc at) b)) m
+    word wordKind.test w p (suc (placeAfter (suc at) b)) m
     ∷ emit (suc at) b
-    (word 7 0 0 (placeAfter (suc (placeAfter (suc at) b)) c) 0
+    (word wordKind.jump 0 0 (placeAfter (suc (placeAfter (suc at) b)) c) 0
     ∷ emit (suc (placeAfter (suc at) b)) c (emit (placeAfter (suc (placeAfter (suc at) b)) c) rest ws))
 
 -- "a halt follows"
 abbrev pub halt : Record
-halt = word 8 0 0 0 0
+halt = word wordKind.halt 0 0 0 0
 
 unfoldable pub wordsOf : List ℕ → List Record
 wordsOf script = emit 0 (scriptBody script) (halt ∷ [])

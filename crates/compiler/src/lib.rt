@@ -2,6 +2,7 @@
 // `compile` is the only public call; `correct`, `runnelopal` and `replay` use it. It relies on `script::scan` for refusals 1
 // to 8. See docs/CHIP.md, "Words" and "Refusals".
 use record::Record;
+use record::word_kind;
 ghost use mathlib.Core.Path.{_≡_};
 ghost use mathlib.Core.Bool.{cond};
 ghost use mathlib.Core.List.{[], _++_};
@@ -9,10 +10,11 @@ ghost use Prim.Native.Nat.{_+_, _*_, _≤_, _/_};
 ghost use lib.Dec.{eqb, ltb};
 ghost use lib.ListN.{length, take, drop, replicate};
 ghost use Rattle.record.specs.Record.{bytesOf, mostRecords, recordSize};
+ghost use Rattle.script.specs.Kind as recordKind;
 ghost use Rattle.script.specs.Records.{recordsOf};
 ghost use Rattle.script.specs.Refusals.{scriptRefusal};
 ghost use Rattle.compiler.specs.Compile.{compileResult, imageAfter};
-ghost use Rattle.compiler.specs.Emit.{TargetsFrom, emitsWord, placeAfterRecord, wordKind};
+ghost use Rattle.compiler.specs.Emit.{TargetsFrom, emitsWord, placeAfterRecord, wordKindFor};
 ghost use Rattle.compiler.specs.Words.{word, imageBytes, wordsOf};
 
 // Refusal 0 and the number of words written, or a refusal with its place.
@@ -22,20 +24,11 @@ pub struct CompileResult {
     pub words: u32,
 }
 
-// Word kinds. A write, a read, a delay and a repeat keep their kind; these are the others.
-const LOOP_END: u32 = 5;
-
-const TEST: u32 = 6;
-
-const JUMP: u32 = 7;
-
-const HALT: u32 = 8;
-
 // ---- targets
 
 // What is kept of a block while it is open: 0 for an if, the place of its body for a repeat.
 fn start_of(kind: u32, body: u32) -> u32
-    ensures { λ r. ⌜ r ≡ cond (eqb kind 5) 0 body ⌝ }
+    ensures { λ r. ⌜ r ≡ cond (eqb kind recordKind.if) 0 body ⌝ }
 {
     if kind == script::IF {
         return 0;
@@ -46,7 +39,7 @@ fn start_of(kind: u32, body: u32) -> u32
 // The place after a block whose end is reached at `place`. The end of an if becomes no word.
 fn place_after_end(start: u32, place: u32) -> u32
     requires { ⌜ place ≤ mostRecords ⌝ }
-    ensures { λ r. ⌜ r ≡ placeAfterRecord start place 7 ⌝ }
+    ensures { λ r. ⌜ r ≡ placeAfterRecord start place recordKind.end ⌝ }
 {
     if start == 0 {
         return place;
@@ -115,18 +108,18 @@ fn word(kind: u32, width: u32, port: u32, target: u32, value: u32) -> Record
     }
 }
 
-// The word kind of a record kind.
-fn word_kind(kind: u32) -> u32
-    ensures { λ r. ⌜ r ≡ wordKind kind ⌝ }
+// The word kind of a record kind. A write, a read, a delay and a repeat keep their number.
+fn word_kind_for(kind: u32) -> u32
+    ensures { λ r. ⌜ r ≡ wordKindFor kind ⌝ }
 {
     if kind == script::IF {
-        return TEST;
+        return word_kind::TEST;
     }
     if kind == script::ELSE {
-        return JUMP;
+        return word_kind::JUMP;
     }
     if kind == script::END {
-        return LOOP_END;
+        return word_kind::LOOP_END;
     }
     kind
 }
@@ -180,14 +173,14 @@ fn emit(script: &[u8], count: usize, image: &mut [u8])
         let target = targets[k];
         let next = k + 1;
         if emits_word(target, r.kind) {
-            let kind = word_kind(r.kind);
+            let kind = word_kind_for(r.kind);
             // Fields that the record does not use are 0, so the word can copy them.
             put(image, place, word(kind, r.width, r.port, target, r.value));
             place = place + 1;
         }
         k = next;
     }
-    put(image, place, word(HALT, 0, 0, 0, 0));
+    put(image, place, word(word_kind::HALT, 0, 0, 0, 0));
 }
 
 // Refusal 9: a buffer of `length` bytes is too short for this many words.

@@ -1,7 +1,7 @@
 -- The cases P1 to P11 hold, all in one statement. Each is a test without variables, so the definitions compute it to true.
 use mathlib.Core.Path.{_≡_, refl}
 use mathlib.Core.Bool.{true}
-use Rattle.access.specs.Status.{readGives}
+use Rattle.access.specs.Status.{readValue}
 use Rattle.acpi.specs.Acpi.{acpiAccess, acpiEvent, acpiReset, acpiSettle}
 use Rattle.acpi.specs.Event.{ticked}
 use Rattle.acpi.specs.Registers.{
@@ -43,7 +43,7 @@ use Rattle.correct.specs.Cases.{cases, p1, p2, p3, p4, p5, p6, p7, p8, p
 
 pub cases-hold : allHold cases ≡ true
 unfolding p1 p2 p3 p4 p5 p6 p7 p8 p9 p10 p11
-    deviceAccess dispatch readGives owner keyClaims monitorClaims applyEvent eventEffect eventBlock resetDevice
+    deviceAccess dispatch readValue owner keyClaims monitorClaims applyEvent eventEffect eventBlock resetDevice
     configAccess dataRead registerRead indexWrite dataWrite registerWrite controlWrite keyAccess keyRead keyWrite
     monitorAccess monitorRead writeAs lockableWrite
     acpiAccess acpiEvent acpiReset acpiSettle takes acpiRead registerValue acpiWrite acpiControl setupIndexWrite

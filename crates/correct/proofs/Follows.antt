@@ -5,12 +5,12 @@ use mathlib.Core.Path.{_≡_, ap, _∙_}
 use mathlib.Core.List.{List}
 use native.Mathlib.Omega.{arith}
 use Rattle.sequencer.specs.Run.{runEnd, follow, runFrom}
-use Rattle.step.specs.Step.{Machine, goesOn, halts, nextStep}
+use Rattle.step.specs.Step.{Machine, continues, halts, nextStep}
 
 -- from one machine to another; the numbers are the steps counted so far at each of them
 pub data Reach (image : List ℕ) (room : ℕ) : ℕ → Machine → ℕ → Machine → Type 0 where
   here : {s : ℕ} {m : Machine} → Reach image room s m s m
-  step : {s t : ℕ} {m n o : Machine} → nextStep image room m ≡ goesOn n → Reach image room (suc s) n t o
+  step : {s t : ℕ} {m n o : Machine} → nextStep image room m ≡ continues n → Reach image room (suc s) n t o
       → Reach image room s m t o
 
 module _ {image : List ℕ} {room : ℕ} where

@@ -1,4 +1,4 @@
--- Compiling and running gives `wholeAnswer` and `wholeLog`. A refusal by the compiler is that of `wholeRefusal`. The run of
+-- Compiling and running gives `compileAndRunResult` and `compileAndRunLog`. A refusal by the compiler is that of `compileAndRunRefusal`. The run of
 -- an accepted script is its own run, by `whole-run`, if the log and the budget are large enough.
 use Prim.Native.Nat.{ℕ, _*_, _-_, _≤_}
 use mathlib.Core.Path.{_≡_, refl, sym, ap, _∙_}
@@ -15,6 +15,7 @@ use Rattle.compiler.specs.declared.CompileResult.{CompileResult}
 use Rattle.device.specs.Device.{deviceInRange}
 use Rattle.device.specs.declared.Device.{Device}
 use Rattle.mask.proofs.Every.{and-left, and-right}
+use Rattle.record.specs.Record.{mostRecords, recordSize}
 use Rattle.script.proofs.Flat.{accepts}
 use Rattle.script.specs.Refusals.{scriptRefusal, wordsIn}
 use Rattle.outcome.specs.Refusal.{refusal}
@@ -25,19 +26,19 @@ use Rattle.step.specs.Step.{logFilled}
 use Rattle.step.specs.Sequencer.{freshSequencer, sequencerInRange}
 use Rattle.sequencer.specs.declared.RunResult.{RunResult}
 use Rattle.correct.specs.CompilerCorrect.{Bytes, wordsWritten}
-use Rattle.correct.specs.CompileAndRun.{ownEnd, suffices, wholeAnswer, wholeEnd, wholeLog, wholeRefusal}
+use Rattle.correct.specs.CompileAndRun.{ownEnd, suffices, compileAndRunResult, compileAndRunEnd, compileAndRunLog, compileAndRunRefusal}
 use Rattle.correct.proofs.CompileAndRun.{fresh-in-range, good-image, whole-run, words-are, words-counted, words-many, written-are}
 
 -- ---- a refusal by the compiler; it is never 9, because the buffer of 12,288 bytes is long enough for 1,024 words
 script-refused :
-    (script buffer : List ℕ) → 12288 ≤ length buffer → (compileResult script buffer .refusal ≡ 0 → ⊥)
+    (script buffer : List ℕ) → recordSize * mostRecords ≤ length buffer → (compileResult script buffer .refusal ≡ 0 → ⊥)
     → scriptRefusal script .number ≡ 0 → ⊥
 script-refused script buffer l n z =
     n (accepts-all script buffer z (let w = accepts script z .few-words in omega (arith, w, l)))
 
 whole-is-script : (script : List ℕ) (d : Device) (events : List ℕ) → (scriptRefusal script .number ≡ 0 → ⊥)
-    → wholeRefusal script d events ≡ scriptRefusal script
-unfolding wholeRefusal
+    → compileAndRunRefusal script d events ≡ scriptRefusal script
+unfolding compileAndRunRefusal
 whole-is-script script d events n = rw (ne-eqb (scriptRefusal script .number) 0 n)
 
 compile-is-script : (script buffer : List ℕ) → (scriptRefusal script .number ≡ 0 → ⊥)
@@ -47,22 +48,22 @@ compile-is-script script buffer n = rw (ne-eqb (scriptRefusal script .number) 0 
 
 pub compiler-refuses :
     (script buffer : List ℕ) (d : Device) (events : List ℕ) (budget : ℕ) (log : List ℕ) (c : CompileResult)
-    → 12288 ≤ length buffer → c ≡ compileResult script buffer → (c .refusal ≡ 0 → ⊥)
-    → (refusedRun (refusal (c .refusal) (c .place)) d freshSequencer ≡ wholeAnswer script d events budget log)
-    × (log ≡ wholeLog script d events budget log)
-unfolding wholeAnswer wholeLog compileResult
+    → recordSize * mostRecords ≤ length buffer → c ≡ compileResult script buffer → (c .refusal ≡ 0 → ⊥)
+    → (refusedRun (refusal (c .refusal) (c .place)) d freshSequencer ≡ compileAndRunResult script d events budget log)
+    × (log ≡ compileAndRunLog script d events budget log)
+unfolding compileAndRunResult compileAndRunLog compileResult
 compiler-refuses script buffer d events budget log c l e n =
     let z = script-refused script buffer l (λ q. n (ap (λ (x : CompileResult). x .refusal) e ∙ q)) in
     let w = whole-is-script script d events z in
-    let k : eqb (wholeRefusal script d events .number) 0 ≡ false = rw w (ne-eqb (scriptRefusal script .number) 0 z) in
+    let k : eqb (compileAndRunRefusal script d events .number) 0 ≡ false = rw w (ne-eqb (scriptRefusal script .number) 0 z) in
     (rw (e, k, w, compile-is-script script buffer z), rw k)
 
 -- ---- an accepted script
--- after compiling, `run` refuses exactly what `wholeRefusal` says
+-- after compiling, `run` refuses exactly what `compileAndRunRefusal` says
 same-refusal :
     (script buffer : List ℕ) (d : Device) (events : List ℕ) → compileResult script buffer .refusal ≡ 0
-    → runRefusal (wordsWritten script buffer) d freshSequencer events ≡ wholeRefusal script d events
-unfolding runRefusal wholeRefusal
+    → runRefusal (wordsWritten script buffer) d freshSequencer events ≡ compileAndRunRefusal script d events
+unfolding runRefusal compileAndRunRefusal
 same-refusal script buffer d events accepted =
     let z = refuses-not script buffer accepted .0 in
     let many = words-many script z in
@@ -75,13 +76,13 @@ same-refusal script buffer d events accepted =
     judged true = refl
     judged false = refl
 
--- the run of the image ends as `wholeEnd` says
+-- the run of the image ends as `compileAndRunEnd` says
 same-end :
     (script buffer : List ℕ) (d : Device) (events : List ℕ) (budget : ℕ) (log : List ℕ) → Bytes script
     → compileResult script buffer .refusal ≡ 0
     → imageRun (wordsWritten script buffer) d freshSequencer events budget (length log)
-    ≡ wholeEnd script d events budget (length log)
-unfolding wholeEnd
+    ≡ compileAndRunEnd script d events budget (length log)
+unfolding compileAndRunEnd
 same-end script buffer d events budget log bytes accepted =
     pick (suffices (scriptRun script d events) budget (length log)) refl
   where
@@ -95,13 +96,13 @@ same-end script buffer d events budget log bytes accepted =
     pick false h =
         ap (λ (image : List ℕ). imageRun image d freshSequencer events budget (length log)) (written-are script buffer accepted)
 
--- so its answer and its log are `wholeAnswer` and `wholeLog`
+-- so its answer and its log are `compileAndRunResult` and `compileAndRunLog`
 pub words-run :
     (script buffer : List ℕ) (d : Device) (events : List ℕ) (budget : ℕ) (log : List ℕ) → Bytes script
     → compileResult script buffer .refusal ≡ 0
-    → (runAnswer (wordsWritten script buffer) d freshSequencer events budget log ≡ wholeAnswer script d events budget log)
-    × (logAfter (wordsWritten script buffer) d freshSequencer events budget log ≡ wholeLog script d events budget log)
-unfolding runAnswer logAfter wholeAnswer wholeLog
+    → (runAnswer (wordsWritten script buffer) d freshSequencer events budget log ≡ compileAndRunResult script d events budget log)
+    × (logAfter (wordsWritten script buffer) d freshSequencer events budget log ≡ compileAndRunLog script d events budget log)
+unfolding runAnswer logAfter compileAndRunResult compileAndRunLog
 words-run script buffer d events budget log bytes accepted =
     let f = same-refusal script buffer d events accepted in
     let e = same-end script buffer d events budget log bytes accepted in

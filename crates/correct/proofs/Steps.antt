@@ -11,7 +11,7 @@ use lib.ListN.{length}
 use Rattle.compiler.specs.Words.{halt, word}
 use Rattle.record.specs.declared.Record.{Record}
 use Rattle.semantics.specs.World.{World, afterDelay, afterRead, sharesOne, afterTest, afterWrite}
-use Rattle.step.specs.Step.{Machine, execute, goesOn, halts, machine, nextStep, stepFrom, wordFault}
+use Rattle.step.specs.Step.{Machine, execute, continues, halts, machine, nextStep, stepFrom, wordFault}
 use Rattle.step.specs.Word.{badWord, imageWords, wordAt}
 use Rattle.width.specs.Width.{fitsWidth, isWidth}
 
@@ -65,45 +65,45 @@ module _ (image : List ℕ) (room : ℕ) where
 
   module _ (place : ℕ) (cs : List ℕ) (world : World) (inside : place < imageWords image) where
     pub step-write : (w p v : ℕ) → wordAt image place ≡ word 1 w p 0 v → isWidth w ≡ true → fitsWidth w v ≡ true
-        → nextStep image room (machine place cs world) ≡ goesOn (machine (suc place) cs (afterWrite p w v world))
+        → nextStep image room (machine place cs world) ≡ continues (machine (suc place) cs (afterWrite p w v world))
     unfolding execute
     step-write w p v e hw hv =
         takes (word 1 w p 0 v) (machine place cs world) inside e (write-good _ _ _ _ w p v hw hv)
 
     pub step-read : (w p : ℕ) → wordAt image place ≡ word 2 w p 0 0 → isWidth w ≡ true → length (world .logged) < room
-        → nextStep image room (machine place cs world) ≡ goesOn (machine (suc place) cs (afterRead p w world))
+        → nextStep image room (machine place cs world) ≡ continues (machine (suc place) cs (afterRead p w world))
     unfolding execute
     step-read w p e hw l = takes (word 2 w p 0 0) (machine place cs world) inside e (read-good _ _ _ _ w p hw l)
 
     pub step-delay : (n : ℕ) → wordAt image place ≡ word 3 0 0 0 n → n ≤ 65535
-        → nextStep image room (machine place cs world) ≡ goesOn (machine (suc place) cs (afterDelay n world))
+        → nextStep image room (machine place cs world) ≡ continues (machine (suc place) cs (afterDelay n world))
     unfolding execute
     step-delay n e h = takes (word 3 0 0 0 n) (machine place cs world) inside e (delay-good _ _ _ _ n h)
 
     -- "4 enter (0 jumps to target, else pushes value)"
     pub step-past : (t : ℕ) → wordAt image place ≡ word 4 0 0 t 0 → t < imageWords image → length cs < 8
-        → nextStep image room (machine place cs world) ≡ goesOn (machine t cs world)
+        → nextStep image room (machine place cs world) ≡ continues (machine t cs world)
     unfolding execute
     step-past t e a l =
         takes (word 4 0 0 t 0) (machine place cs world) inside e (enter-good _ _ _ _ t 0 (omega arith) a l)
 
     pub step-enter : (t n : ℕ) → wordAt image place ≡ word 4 0 0 t (suc n) → suc n ≤ 65535 → t < imageWords image
         → length cs < 8
-        → nextStep image room (machine place cs world) ≡ goesOn (machine (suc place) (suc n ∷ cs) world)
+        → nextStep image room (machine place cs world) ≡ continues (machine (suc place) (suc n ∷ cs) world)
     unfolding execute
     step-enter t n e h a l =
         takes (word 4 0 0 t (suc n)) (machine place cs world) inside e (enter-good _ _ _ _ t (suc n) h a l) ∙ rw (not-zero n)
 
     -- "5 loop end (one off the top; to target if not 0, else pop and next)"
     pub step-again : (t n : ℕ) → wordAt image place ≡ word 5 0 0 t 0 → t < imageWords image
-        → nextStep image room (machine place (suc (suc n) ∷ cs) world) ≡ goesOn (machine t (suc n ∷ cs) world)
+        → nextStep image room (machine place (suc (suc n) ∷ cs) world) ≡ continues (machine t (suc n ∷ cs) world)
     unfolding execute
     step-again t n e a =
         takes (word 5 0 0 t 0) (machine place (suc (suc n) ∷ cs) world) inside e (loop-end-good _ _ _ _ t a (omega arith))
         ∙ (let o : suc (suc n) - 1 ≡ suc n = omega arith in rw (o, not-zero n))
 
     pub step-out : (t : ℕ) → wordAt image place ≡ word 5 0 0 t 0 → t < imageWords image
-        → nextStep image room (machine place (1 ∷ cs) world) ≡ goesOn (machine (suc place) cs world)
+        → nextStep image room (machine place (1 ∷ cs) world) ≡ continues (machine (suc place) cs world)
     unfolding execute
     step-out t e a =
         takes (word 5 0 0 t 0) (machine place (1 ∷ cs) world) inside e (loop-end-good _ _ _ _ t a (omega arith))
@@ -112,13 +112,13 @@ module _ (image : List ℕ) (room : ℕ) where
     pub step-test : (w p t v : ℕ) → wordAt image place ≡ word 6 w p t v → isWidth w ≡ true → fitsWidth w v ≡ true
         → t < imageWords image
         → nextStep image room (machine place cs world)
-        ≡ goesOn (machine (cond (sharesOne p w v world) (suc place) t) cs (afterTest p w world))
+        ≡ continues (machine (cond (sharesOne p w v world) (suc place) t) cs (afterTest p w world))
     unfolding execute
     step-test w p t v e hw hv a =
         takes (word 6 w p t v) (machine place cs world) inside e (test-good _ _ _ _ w p t v hw hv a)
 
     pub step-jump : (t : ℕ) → wordAt image place ≡ word 7 0 0 t 0 → t < imageWords image
-        → nextStep image room (machine place cs world) ≡ goesOn (machine t cs world)
+        → nextStep image room (machine place cs world) ≡ continues (machine t cs world)
     unfolding execute
     step-jump t e a = takes (word 7 0 0 t 0) (machine place cs world) inside e (jump-good _ _ _ _ t a)
 

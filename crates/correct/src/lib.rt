@@ -11,7 +11,10 @@ ghost use lib.ListN.{length, take};
 ghost use Rattle.record.specs.Record.{mostRecords, recordSize};
 ghost use Rattle.sequencer.specs.Run.{runAnswer, logAfter};
 ghost use Rattle.step.specs.Sequencer.{freshSequencer};
-ghost use Rattle.correct.specs.CompileAndRun.{wholeAnswer, wholeLog};
+ghost use Rattle.correct.specs.CompileAndRun.{compileAndRunResult, compileAndRunLog};
+
+// An image buffer of this size is long enough for every script.
+const IMAGE_SIZE: usize = Record::SIZE * Record::MOST;
 
 fn index(words: u32) -> usize
     ensures { λ r. ⌜ r ≡ words ⌝ }
@@ -45,8 +48,8 @@ fn run_script(
     budget: u32,
     log: &mut [u32],
 ) -> RunResult
-    requires { ⌜ 12288 ≤ length (now image) ⌝ }
-    ensures { λ r. ⌜ (r ≡ wholeAnswer (now (script .entry)) device (now (events .entry)) budget (now (log .entry))) × (now (log .exit) ≡ wholeLog (now (script .entry)) device (now (events .entry)) budget (now (log .entry))) ⌝ }
+    requires { ⌜ recordSize * mostRecords ≤ length (now image) ⌝ }
+    ensures { λ r. ⌜ (r ≡ compileAndRunResult (now (script .entry)) device (now (events .entry)) budget (now (log .entry))) × (now (log .exit) ≡ compileAndRunLog (now (script .entry)) device (now (events .entry)) budget (now (log .entry))) ⌝ }
 {
     let compiled = compiler::compile(script, image);
     if compiled.refusal != 0 {
@@ -72,8 +75,8 @@ pub fn compile_and_run(
     budget: u32,
     log: &mut [u32],
 ) -> RunResult
-    ensures { λ r. ⌜ (r ≡ wholeAnswer (now (script .entry)) device (now (events .entry)) budget (now (log .entry))) × (now (log .exit) ≡ wholeLog (now (script .entry)) device (now (events .entry)) budget (now (log .entry))) ⌝ }
+    ensures { λ r. ⌜ (r ≡ compileAndRunResult (now (script .entry)) device (now (events .entry)) budget (now (log .entry))) × (now (log .exit) ≡ compileAndRunLog (now (script .entry)) device (now (events .entry)) budget (now (log .entry))) ⌝ }
 {
-    let mut image = [0u8; 12288];
+    let mut image = [0u8; IMAGE_SIZE];
     run_script(script, &mut image, device, events, budget, log)
 }

@@ -5,7 +5,7 @@ use mathlib.Core.Path.{_≡_, refl, ap, _∙_}
 use mathlib.Core.Bool.{Bool, true, false, cond}
 use Rattle.access.proofs.Block.{Orderly}
 use Rattle.access.specs.Block.{Result}
-use Rattle.access.specs.Status.{readGives}
+use Rattle.access.specs.Status.{readValue}
 use Rattle.access.specs.declared.Access.{Access}
 use Rattle.access.specs.declared.Answer.{Answer}
 use Rattle.acpi.proofs.Orderly.{acpi-orderly}
@@ -14,7 +14,7 @@ use Rattle.key.proofs.Orderly.{key-orderly}
 use Rattle.lists.proofs.All.{at-any}
 use Rattle.monitor.proofs.Orderly.{monitor-orderly}
 use Rattle.device.specs.Device.{settleDevice, withAcpi, withConfig, withKey, withMonitor}
-use Rattle.device.specs.Dispatch.{answerGiven, answeredBy, answers, deviceAccess, dispatch}
+use Rattle.device.specs.Dispatch.{finalAnswer, answeredBy, answers, deviceAccess, dispatch}
 use Rattle.device.specs.Owner.{acpiPort, configPort, keyPort, monitorPort, owner}
 use Rattle.device.specs.declared.AccessResult.{AccessResult}
 use Rattle.device.specs.declared.Device.{Device}
@@ -50,11 +50,11 @@ dispatch-orderly d x =
     (owner g (x .port))
 
 -- the status is that of the owner, for reads and for writes
-same-status : (x : Access) (r : Answer) → answerGiven x r .status ≡ r .status
+same-status : (x : Access) (r : Answer) → finalAnswer x r .status ≡ r .status
 same-status x r = pick (x .write)
   where
     pick : (b : Bool)
-        → cond b r (record { status = r .status; value = readGives (r .status) (x .width) (r .value) }) .status ≡ r .status
+        → cond b r (record { status = r .status; value = readValue (r .status) (x .width) (r .value) }) .status ≡ r .status
     pick true = refl
     pick false = refl
 
@@ -72,4 +72,4 @@ write-answers-zero d x w = ap (λ (b : Bool). given b .value) w ∙ dispatch-ord
     given : Bool → Answer
     given b =
         let r = dispatch d x .answer in
-        cond b r (record { status = r .status; value = readGives (r .status) (x .width) (r .value) })
+        cond b r (record { status = r .status; value = readValue (r .status) (x .width) (r .value) })

@@ -5,7 +5,7 @@ use mathlib.Core.Bool.{cond}
 use mathlib.Core.List.{List, [], _∷_}
 use lib.ListN.{getD}
 use Rattle.access.specs.Block.{Result}
-use Rattle.access.specs.Status.{readGives, statusOnly}
+use Rattle.access.specs.Status.{readValue, statusOnly}
 use Rattle.access.specs.declared.Access.{Access}
 use Rattle.access.specs.declared.Answer.{Answer}
 use Rattle.acpi.specs.Acpi.{acpiAccess}
@@ -42,9 +42,9 @@ unfoldable pub dispatch : Device → Access → AccessResult
 dispatch d x = getD (answers d x) (owner (d .config) (x .port)) (unclaimed d)
 
 -- the column "Read gives" of the status table; the answer to a write is the answer of the owner, and its value is 0
-abbrev pub answerGiven : Access → Answer → Answer
-answerGiven x r = cond (x .write) r (record { status = r .status; value = readGives (r .status) (x .width) (r .value) })
+abbrev pub finalAnswer : Access → Answer → Answer
+finalAnswer x r = cond (x .write) r (record { status = r .status; value = readValue (r .status) (x .width) (r .value) })
 
 -- the answer to an access, and the device after the access and the settling
 unfoldable pub deviceAccess : Device → Access → AccessResult
-deviceAccess d x = accessResult (answerGiven x (dispatch d x .answer)) (settleDevice (dispatch d x .device))
+deviceAccess d x = accessResult (finalAnswer x (dispatch d x .answer)) (settleDevice (dispatch d x .device))

@@ -10,15 +10,22 @@ use Rattle.device.specs.Device.{resetDevice, settleDevice, withAcpi, wit
 use Rattle.device.specs.Owner.{acpi, monitor, nobody}
 use Rattle.device.specs.declared.Device.{Device}
 
+-- the kind is the number divided by this, and the operand is the remainder
+abbrev pub kindUnit : ℕ
+kindUnit = 2 ^ 24
+
 abbrev pub kindOf : ℕ → ℕ
-kindOf number = number / 2 ^ 24
+kindOf number = number / kindUnit
 
 abbrev pub operandOf : ℕ → ℕ
-operandOf number = number % 2 ^ 24
+operandOf number = number % kindUnit
+
+abbrev pub mostTicks : ℕ
+mostTicks = 65535
 
 -- the event of this many ticks; ticks are kind 1
 abbrev pub tickEvent : ℕ → ℕ
-tickEvent ticks = 1 * 2 ^ 24 + ticks
+tickEvent ticks = 1 * kindUnit + ticks
 
 -- ---- the kinds of events, each with its greatest operand and the block that takes it
 pub record EventKind : Type 0 where
@@ -37,7 +44,7 @@ everyBlock = 255
 -- PCI, 1 VCC, 2 VTR, 3 Vbat); 7 button held [..]. Kinds 3, 4 and 7 have operand 0"
 abbrev pub eventKinds : List EventKind
 eventKinds =
-    eventKind 1 65535 acpi
+    eventKind 1 mostTicks acpi
     ∷ eventKind 2 15 acpi
     ∷ eventKind 3 0 acpi
     ∷ eventKind 4 0 acpi

@@ -1,5 +1,5 @@
 pub mod Device
 pub mod Dispatch
 pub mod Event
-pub mod Lone
+pub mod Single
 pub mod Owner

@@ -25,15 +25,32 @@ monitor = 3
 abbrev pub key : ℕ
 key = 4
 
--- ---- the first port of each block
+-- ---- the first port of each block, and the last port of a block at fixed ports
 abbrev pub configPort : ℕ
 configPort = 0x002E
+
+abbrev pub configLastPort : ℕ
+configLastPort = 0x002F
 
 abbrev pub acpiPort : ℕ
 acpiPort = 0xAC00
 
+abbrev pub acpiLastPort : ℕ
+acpiLastPort = 0xAC1F
+
+-- the offsets of the monitor's index and data ports from the runtime base
+abbrev pub monitorIndex : ℕ
+monitorIndex = 0x70
+
+abbrev pub monitorData : ℕ
+monitorData = 0x71
+
 abbrev pub monitorPort : Config → ℕ
-monitorPort g = runtimeBase g + 0x70
+monitorPort g = runtimeBase g + monitorIndex
+
+-- the number of the key's ports, from the key base on
+abbrev pub keyPorts : ℕ
+keyPorts = 32
 
 abbrev pub keyPort : Config → ℕ
 keyPort g = keyBase g
@@ -45,11 +62,11 @@ inPorts first last port = leb first port && leb port last
 
 -- "002Eh, 002Fh: configuration."
 abbrev pub configClaims : ℕ → Bool
-configClaims port = inPorts 0x002E 0x002F port
+configClaims port = inPorts configPort configLastPort port
 
 -- "AC00h to AC1Fh: ACPI."
 abbrev pub acpiClaims : ℕ → Bool
-acpiClaims port = inPorts 0xAC00 0xAC1F port
+acpiClaims port = inPorts acpiPort acpiLastPort port
 
 -- "Blocks 3 and 4 exist only while activated and with a masked base other than 0."
 abbrev pub isActive : Config → Bool
@@ -59,12 +76,12 @@ isActive g = hasBit 0x01 (g .activate)
 unfoldable pub monitorClaims : Config → ℕ → Bool
 monitorClaims g port =
     isActive g
-    && (not (eqb (runtimeBase g) 0) && (eqb port (runtimeBase g + 0x70) || eqb port (runtimeBase g + 0x71)))
+    && (not (eqb (runtimeBase g) 0) && (eqb port (runtimeBase g + monitorIndex) || eqb port (runtimeBase g + monitorData)))
 
 -- "Key base to key base + 31: key bytes."
 unfoldable pub keyClaims : Config → ℕ → Bool
 keyClaims g port =
-    isActive g && (not (eqb (keyBase g) 0) && (leb (keyBase g) port && ltb port (keyBase g + 32)))
+    isActive g && (not (eqb (keyBase g) 0) && (leb (keyBase g) port && ltb port (keyBase g + keyPorts)))
 
 -- "Blocks claim by starting port, in this order"
 abbrev pub claims : Config → ℕ → List Bool

@@ -3,20 +3,20 @@
 use access::Access;
 use access::Answer;
 ghost use mathlib.Core.Path.{_≡_};
-ghost use Rattle.device.specs.Dispatch.{answerGiven, deviceAccess, dispatch};
+ghost use Rattle.device.specs.Dispatch.{finalAnswer, deviceAccess, dispatch};
 use crate::AccessResult;
 use crate::Device;
 use crate::owner::monitor_port;
 use crate::owner::owner;
 
 // The value of a read depends on the status. The answer to a write is the answer of the owner.
-fn answer_given(access: Access, answer: Answer) -> Answer
-    ensures { λ r. ⌜ r ≡ answerGiven access answer ⌝ }
+fn final_answer(access: Access, answer: Answer) -> Answer
+    ensures { λ r. ⌜ r ≡ finalAnswer access answer ⌝ }
 {
     if access.write {
         return answer;
     }
-    let value = access::read_gives(answer.status, access.width, answer.value);
+    let value = access::read_value(answer.status, access.width, answer.value);
     Answer {
         status: answer.status,
         value,
@@ -95,7 +95,7 @@ impl Device {
         ensures { λ r. ⌜ r ≡ deviceAccess self access ⌝ }
     {
         let owned = self.dispatch(access);
-        let answer = answer_given(access, owned.answer);
+        let answer = final_answer(access, owned.answer);
         let device = owned.device.settle();
         AccessResult { device, answer }
     }

@@ -4,11 +4,14 @@ use acpi::Acpi;
 use monitor::Monitor;
 ghost use mathlib.Core.Path.{_≡_};
 ghost use Prim.Native.Nat.{_≤_};
-ghost use Rattle.device.specs.Event.{applyEvent, eventBlock, greatestOperand, isEvent, tickEvent};
+ghost use Rattle.device.specs.Event.{applyEvent, eventBlock, greatestOperand, isEvent, mostTicks, tickEvent};
 use crate::Device;
 
 // The kind is the number divided by this, and the operand is the remainder.
-pub const KIND: u32 = 0x0100_0000;
+pub const KIND_UNIT: u32 = 0x0100_0000;
+
+// The most ticks of one event.
+const MOST_TICKS: u32 = 65535;
 
 // The kind of a reset. The other kinds are constants of the block that takes them.
 pub const RESET: u32 = 6;
@@ -36,7 +39,7 @@ fn greatest_operand(kind: u32) -> u32
     ensures { λ r. ⌜ r ≡ greatestOperand kind ⌝ }
 {
     match kind {
-        Acpi::TICKS => 65535,
+        Acpi::TICKS => MOST_TICKS,
         Acpi::PIN => 15,
         Acpi::RTC_ALARM => 0,
         Acpi::BUS_MASTER => 0,
@@ -49,21 +52,21 @@ fn greatest_operand(kind: u32) -> u32
 
 // The event of this many ticks.
 pub fn tick_event(ticks: u32) -> u32
-    requires { ⌜ ticks ≤ 65535 ⌝ }
+    requires { ⌜ ticks ≤ mostTicks ⌝ }
     ensures { λ r. ⌜ r ≡ tickEvent ticks ⌝ }
 {
-    Acpi::TICKS * KIND + ticks
+    Acpi::TICKS * KIND_UNIT + ticks
 }
 
 // False for the events that are refused with 12: the kind is unknown or the operand is too large.
 pub fn is_event(number: u32) -> bool
     ensures { λ r. ⌜ r ≡ isEvent number ⌝ }
 {
-    let kind = number / KIND;
+    let kind = number / KIND_UNIT;
     if event_block(kind) == Device::NOBODY {
         return false;
     }
-    number % KIND <= greatest_operand(kind)
+    number % KIND_UNIT <= greatest_operand(kind)
 }
 
 impl Device {
@@ -71,8 +74,8 @@ impl Device {
     pub fn apply_event(mut self, number: u32) -> Self
         ensures { λ r. ⌜ r ≡ applyEvent self number ⌝ }
     {
-        let kind = number / KIND;
-        let operand = number % KIND;
+        let kind = number / KIND_UNIT;
+        let operand = number % KIND_UNIT;
         let block = event_block(kind);
         match block {
             Device::ACPI => {

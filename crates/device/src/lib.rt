@@ -2,8 +2,8 @@
 // returns the next one. The sequencer, `state` and the programs use it. See docs/CHIP.md.
 pub mod dispatch;
 pub mod event;
-pub mod lone;
 pub mod owner;
+pub mod single;
 
 use access::Answer;
 use acpi::Acpi;

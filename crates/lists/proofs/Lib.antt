@@ -2,4 +2,5 @@ pub mod All
 pub mod Slice
 pub mod Replicate
 pub mod Stack
+pub mod Stores
 pub mod Tests

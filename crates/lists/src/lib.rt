@@ -1,1 +1,1 @@
-// Lists of tests, slices and stacks: definitions and laws that several crates share. There is no code here.
+// Lists of tests, slices, stores and stacks: definitions and laws that several crates share. There is no code here.

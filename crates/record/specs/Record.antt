@@ -13,6 +13,10 @@ recordSize = 12
 abbrev pub mostRecords : ℕ
 mostRecords = 1024
 
+-- the largest count: the ticks of a delay, or how many times a repeat runs; "Values of kinds 3 and 4 are 0 to 65,535"
+abbrev pub mostTurns : ℕ
+mostTurns = 65535
+
 -- the record whose 12 bytes start at a place
 unfoldable pub recordAt : List ℕ → ℕ → Record
 recordAt bytes at = record {

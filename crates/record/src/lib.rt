@@ -1,5 +1,8 @@
 // The record of 12 bytes that scripts and images share. See docs/CHIP.md, "Records".
 // `script` and `compiler` read the records of a script, `compiler` writes the words of an image, and `sequencer` reads them.
+// `word_kind` has the kinds of words; the kinds of records are in `script`.
+pub mod word_kind;
+
 use little_endian::byte0;
 use little_endian::byte1;
 use little_endian::byte2;
@@ -26,6 +29,9 @@ impl Record {
 
     // The largest number of records in a script and of words in an image.
     pub const MOST: usize = 1024;
+
+    // The largest count: the ticks of a delay, or how many times a repeat runs. So it is the largest loop counter too.
+    pub const MOST_TURNS: u32 = 65535;
     // The marks as numbers. In the bytes they are 5Ah A5h and C3h 3Ch.
     pub const SCRIPT_MARK: u32 = 0xA55A;
 

@@ -4,6 +4,7 @@ use device::Device;
 use device::Outputs;
 use libc::STDOUT_FILENO;
 use sequencer::RunResult;
+use step::COUNTERS;
 use step::Sequencer;
 
 fn write(line: &[u8], end: usize) {
@@ -94,8 +95,15 @@ fn put_state(line: &mut [u8], at: usize, device: Device) -> usize {
     put_bytes(line, at, &bytes, state::SIZE)
 }
 
+// Room for the longest line of each kind: two digits for each byte of a saved state or an image, eight for each value of a log.
+const STATE_LINE: usize = 256;
+
+const COMPILED_LINE: usize = 33000;
+
+const RUN_LINE: usize = 17000;
+
 pub fn state(device: Device) {
-    let mut line = [0u8; 256];
+    let mut line = [0u8; STATE_LINE];
     let a = digits::put_text(&mut line, 0, b"STATE ");
     let b = put_state(&mut line, a, device);
     print(&mut line, b);
@@ -130,7 +138,7 @@ fn put_compiled(line: &mut [u8], refusal: u32, place: u32, words: u32) -> usize 
 
 // The answer to a compilation, with the first `length` bytes of the image.
 pub fn compiled(refusal: u32, place: u32, words: u32, image: &[u8], length: usize) {
-    let mut line = [0u8; 33000];
+    let mut line = [0u8; COMPILED_LINE];
     let a = put_compiled(&mut line, refusal, place, words);
     let b = put_buffer(&mut line, a, image, length);
     print(&mut line, b);
@@ -149,9 +157,9 @@ fn short(number: usize) -> u32 {
     (number % 0x1_0000_0000) as u32
 }
 
-fn put_counters(line: &mut [u8], at: usize, counters: &[u32; 8]) -> usize {
+fn put_counters(line: &mut [u8], at: usize, counters: &[u32; COUNTERS]) -> usize {
     let mut next = at;
-    for k in 0..8 {
+    for k in 0..COUNTERS {
         next = put_next(line, next, counters[k]);
     }
     next
@@ -202,14 +210,14 @@ fn put_ended(line: &mut [u8], result: RunResult) -> usize {
 }
 
 pub fn run_ended(result: RunResult, session: Session, log: &[u32], size: usize) {
-    let mut line = [0u8; 17000];
+    let mut line = [0u8; RUN_LINE];
     let a = put_ended(&mut line, result);
     let b = put_session(&mut line, a, session, log, size);
     print(&mut line, b);
 }
 
 pub fn run_refused(number: u32, place: u32, session: Session, log: &[u32], size: usize) {
-    let mut line = [0u8; 17000];
+    let mut line = [0u8; RUN_LINE];
     let a = put_refusal(&mut line, number, place);
     let b = put_session(&mut line, a, session, log, size);
     print(&mut line, b);

@@ -8,7 +8,7 @@ use access::Access;
 use device::Device;
 
 fn access(device: Device, access: Access) -> Device {
-    let r = device.lone_access(access);
+    let r = device.single_access(access);
     let next = r.device;
     let outputs = r.outputs;
     if r.refusal == 0 {
@@ -65,7 +65,7 @@ fn write(device: Device, line: &[u8]) -> Device {
 fn event(device: Device, line: &[u8]) -> Device {
     let number = digits::next_number(line, 1);
     if number.ok && digits::at_end(line, number.next) {
-        let r = device.lone_event(number.value);
+        let r = device.single_event(number.value);
         let next = r.device;
         let outputs = r.outputs;
         if r.refusal == 0 {
@@ -90,25 +90,28 @@ fn state_bytes(line: &[u8], bytes: &mut [u8; state::SIZE]) -> bool {
     true
 }
 
+// The length of a command `L`: two characters, and two digits for each byte.
+const LOAD_LINE: usize = 2 + 2 * state::SIZE;
+
 // L bytes
 fn load(device: Device, line: &[u8]) -> Device {
     let mut bytes = [0u8; state::SIZE];
     if !digits::is_space(line, 1) {
         return unread(device);
     }
-    if line.len() != 214 {
+    if line.len() != LOAD_LINE {
         return unread(device);
     }
     if !state_bytes(line, &mut bytes) {
         return unread(device);
     }
-    let loaded = state::device_of(&bytes);
+    let loaded = state::load(&bytes);
     let next = loaded.device;
-    if loaded.valid {
+    if loaded.refusal == 0 {
         answer::loaded();
         return next;
     }
-    answer::refused(outcome::BAD_STATE, 0);
+    answer::refused(loaded.refusal, loaded.place);
     device
 }
 

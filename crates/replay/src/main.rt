@@ -14,7 +14,7 @@ use libc::STDIN_FILENO;
 pub const LINE: usize = 65536;
 
 // Stores a byte of the line and returns the length of the line, which stops at `LINE` + 1.
-fn kept(line: &mut [u8; 65536], length: usize, b: u8) -> usize {
+fn kept(line: &mut [u8; LINE], length: usize, b: u8) -> usize {
     if length < LINE {
         line[length] = b;
         return digits::after(length, 1);
@@ -31,19 +31,19 @@ fn command_of(session: Session, line: &[u8], length: usize) -> Session {
     session
 }
 
-fn line_done(session: Session, line: &[u8; 65536], length: usize) -> Session {
+fn line_done(session: Session, line: &[u8; LINE], length: usize) -> Session {
     command_of(session, line, length)
 }
 
 // Reads the next bytes of the input and returns their number.
-fn refill(chunk: &mut [u8; 65536]) -> usize {
+fn refill(chunk: &mut [u8; LINE]) -> usize {
     io::read_full(STDIN_FILENO, chunk)
 }
 
 // Reads the input to its end. A proved loop has to end, so it counts down from a number that no input uses up.
 fn main() {
-    let mut chunk = [0u8; 65536];
-    let mut line = [0u8; 65536];
+    let mut chunk = [0u8; LINE];
+    let mut line = [0u8; LINE];
     let mut session = Session::fresh();
     let mut length: usize = 0;
     let mut at: usize = 0;
@@ -72,7 +72,7 @@ fn main() {
     }
 }
 
-fn byte_at(chunk: &[u8; 65536], at: usize) -> u8 {
+fn byte_at(chunk: &[u8; LINE], at: usize) -> u8 {
     if at < LINE {
         return chunk[at];
     }

@@ -81,9 +81,12 @@ struct RunRequest {
     bytes: usize,
 }
 
+// The greatest length of the log.
+const LOG_SIZE: usize = 2048;
+
 // Fills the log with a pattern, so that the answer shows which values the run leaves unchanged.
-fn lend(log: &mut [u32; 2048]) {
-    for k in 0..2048 {
+fn lend(log: &mut [u32; LOG_SIZE]) {
+    for k in 0..LOG_SIZE {
         log[k] = 0xA000_0000 + (k as u32);
     }
 }
@@ -153,17 +156,17 @@ fn run_within(
 fn run_on(
     session: Session,
     request: RunRequest,
-    bytes: &[u8; 16384],
-    events: &[u32; 4352],
-    log: &mut [u32; 2048],
+    bytes: &[u8; strings::MOST_BYTES],
+    events: &[u32; strings::MOST_EVENTS],
+    log: &mut [u32; LOG_SIZE],
 ) -> Session {
     run_within(session, request, bytes, events, log)
 }
 
 fn run_request(session: Session, line: &[u8], request: RunRequest) -> Session {
-    let mut bytes = [0u8; 16384];
-    let mut events = [0u32; 4352];
-    let mut log = [0u32; 2048];
+    let mut bytes = [0u8; strings::MOST_BYTES];
+    let mut events = [0u32; strings::MOST_EVENTS];
+    let mut log = [0u32; LOG_SIZE];
     strings::copy_bytes(line, request.bytes_at, request.bytes, &mut bytes);
     strings::copy_numbers(line, request.events_at, request.events, &mut events);
     lend(&mut log);

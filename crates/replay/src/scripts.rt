@@ -1,10 +1,11 @@
 // The command `C`, which compiles a script. See docs/CASES.md, "Commands".
 use crate::answer;
 use crate::strings;
+use crate::strings::MOST_BYTES;
 
 // Fills the image buffer with a pattern, so that the answer shows which bytes the compiler leaves unchanged.
-fn lend(image: &mut [u8; 16384]) {
-    for k in 0..16384 {
+fn lend(image: &mut [u8; MOST_BYTES]) {
+    for k in 0..MOST_BYTES {
         image[k] = (k % 251) as u8;
     }
 }
@@ -23,13 +24,18 @@ fn compile_into(script: &[u8], count: usize, image: &mut [u8], length: usize) {
     answer::compiled(r.refusal, r.place, r.words, image, length);
 }
 
-fn compile_all(script: &[u8; 16384], count: usize, image: &mut [u8; 16384], length: usize) {
+fn compile_all(
+    script: &[u8; MOST_BYTES],
+    count: usize,
+    image: &mut [u8; MOST_BYTES],
+    length: usize,
+) {
     compile_into(script, count, image, length);
 }
 
 fn compile(line: &[u8], at: usize, count: usize, length: usize) {
-    let mut script = [0u8; 16384];
-    let mut image = [0u8; 16384];
+    let mut script = [0u8; MOST_BYTES];
+    let mut image = [0u8; MOST_BYTES];
     strings::copy_bytes(line, at, count, &mut script);
     lend(&mut image);
     compile_all(&script, count, &mut image, length);

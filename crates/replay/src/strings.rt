@@ -78,9 +78,14 @@ fn byte_at(line: &[u8], at: usize) -> u32 {
     digits::byte(line, at) % 256
 }
 
+// The most bytes of a script, an image or an image buffer, and the most events of a run.
+pub const MOST_BYTES: usize = 16384;
+
+pub const MOST_EVENTS: usize = 4352;
+
 // Copies as many of the bytes as fit.
-pub fn copy_bytes(line: &[u8], at: usize, count: usize, bytes: &mut [u8; 16384]) {
-    for k in 0..16384 {
+pub fn copy_bytes(line: &[u8], at: usize, count: usize, bytes: &mut [u8; MOST_BYTES]) {
+    for k in 0..MOST_BYTES {
         if count <= k {
             return;
         }
@@ -97,9 +102,9 @@ fn number_at(line: &[u8], at: usize) -> u32 {
     a + 0x100 * b + 0x1_0000 * c + 0x100_0000 * d
 }
 
-// Copies as many of the numbers, four bytes each, as fit.
-pub fn copy_numbers(line: &[u8], at: usize, count: usize, numbers: &mut [u32; 4352]) {
-    for k in 0..4352 {
+// Copies as many of the events, four bytes each, as fit.
+pub fn copy_numbers(line: &[u8], at: usize, count: usize, numbers: &mut [u32; MOST_EVENTS]) {
+    for k in 0..MOST_EVENTS {
         if count <= k {
             return;
         }

@@ -6,11 +6,12 @@ use lib.Dec.{eqb}
 use lib.ListN.{set}
 use Rattle.access.specs.declared.Access.{Access}
 use Rattle.device.specs.Device.{freshDevice}
-use Rattle.device.specs.Lone.{accessRefused, eventRefused, loneAccess, loneEvent}
+use Rattle.device.specs.Single.{accessRefused, eventRefused, singleAccess, singleEvent}
 use Rattle.device.specs.declared.Device.{Device}
 use Rattle.device.specs.declared.Outputs.{Outputs}
-use Rattle.device.specs.declared.lone.LoneAccess.{LoneAccess}
-use Rattle.device.specs.declared.lone.LoneEvent.{LoneEvent}
+use Rattle.device.specs.declared.single.SingleAccess.{SingleAccess}
+use Rattle.device.specs.declared.single.SingleEvent.{SingleEvent}
+use Rattle.outcome.specs.Number as number
 use Rattle.sequencer.specs.Run.{isRefusal, runAnswer}
 use Rattle.step.specs.Sequencer.{freshSequencer}
 use Rattle.sequencer.specs.declared.RunResult.{RunResult}
@@ -37,14 +38,12 @@ runSavedUnlessRefused outcome d state = cond (isRefusal outcome) state (saved d 
 abbrev pub outputNumbers : Outputs → List ℕ
 outputNumbers o = flagByte (o .sci) ∷ flagByte (o .smi) ∷ flagByte (o .monitor) ∷ []
 
--- ---- a saved device: bytes that are not a device are refused with 11, like a device that is not valid
-unfoldable pub savedAccess : List ℕ → Access → LoneAccess
-savedAccess state x =
-    cond (loaded state .valid) (loneAccess (loaded state .device) x) (accessRefused 11 (loaded state .device))
+-- ---- a saved device: bytes that are no device are loaded as `noDevice`, which is refused with 11 like any device that is not valid
+abbrev pub savedAccess : List ℕ → Access → SingleAccess
+savedAccess state x = singleAccess (loaded state .device) x
 
-unfoldable pub savedEvent : List ℕ → ℕ → LoneEvent
-savedEvent state n =
-    cond (loaded state .valid) (loneEvent (loaded state .device) n) (eventRefused 11 (loaded state .device))
+abbrev pub savedEvent : List ℕ → ℕ → SingleEvent
+savedEvent state n = singleEvent (loaded state .device) n
 
 -- a refusal leaves the state unchanged
 abbrev pub savedUnlessRefused : ℕ → Device → List ℕ → List ℕ
@@ -53,8 +52,8 @@ savedUnlessRefused refusal d state = cond (eqb refusal 0) (saved d state) state
 abbrev pub accessOf : Bool → (width port value : ℕ) → Access
 accessOf write w p v = record { write = write; width = w; port = p; value = v }
 
-abbrev pub accessNumbers : LoneAccess → List ℕ
+abbrev pub accessNumbers : SingleAccess → List ℕ
 accessNumbers r = r .place ∷ r .status ∷ r .value ∷ outputNumbers (r .outputs)
 
-abbrev pub eventNumbers : LoneEvent → List ℕ
+abbrev pub eventNumbers : SingleEvent → List ℕ
 eventNumbers r = r .place ∷ outputNumbers (r .outputs)

@@ -3,22 +3,20 @@
 use access::Access;
 use device::Device;
 use device::Outputs;
-use device::lone::LoneAccess;
-use device::lone::LoneEvent;
+use device::single::SingleAccess;
+use device::single::SingleEvent;
 use sequencer::RunResult;
 use step::Sequencer;
 ghost use mathlib.Core.Path.{_≡_};
 ghost use mathlib.Core.List.{[], _∷_};
-ghost use mathlib.Core.Bool.{cond};
 ghost use Prim.Native.Nat.{_<_};
-ghost use lib.Dec.{eqb};
 ghost use lib.ListN.{length, set};
 ghost use Rattle.compiler.specs.Compile.{compileResult, imageAfter};
 ghost use Rattle.device.specs.Device.{freshDevice};
 ghost use Rattle.sequencer.specs.Run.{logAfter};
 ghost use Rattle.step.specs.Sequencer.{freshSequencer};
 ghost use Rattle.little_endian.specs.Bytes.{flagByte};
-ghost use Rattle.state.specs.State.{saved, stateSize};
+ghost use Rattle.state.specs.State.{saved, saveRefusal};
 ghost use Rattle.runnelopal.specs.Calls.{
   numbered,
   outputNumbers,
@@ -121,17 +119,13 @@ pub extern "C" fn runnelopal_run(
 // Saves the fresh device into `state`. Refuses a slice that does not have the length of a state, with 11.
 #[no_mangle]
 pub extern "C" fn runnelopal_fresh(state: &mut [u8]) -> u32
-    ensures { λ r. ⌜ (r ≡ cond (eqb (length (now (state .entry))) stateSize) 0 11) × (now (state .exit) ≡ saved freshDevice (now (state .entry))) ⌝ }
+    ensures { λ r. ⌜ (r ≡ saveRefusal (now (state .entry))) × (now (state .exit) ≡ saved freshDevice (now (state .entry))) ⌝ }
 {
     let fresh = Device::fresh();
-    if state.len() != state::SIZE {
-        return outcome::BAD_STATE;
-    }
-    state::save(fresh, state);
-    0
+    state::save(fresh, state)
 }
 
-fn put_access(answer: &mut [u64], r: LoneAccess)
+fn put_access(answer: &mut [u64], r: SingleAccess)
     ensures { λ _. ⌜ now (answer .exit) ≡ numbered 0 (accessNumbers r) (now (answer .entry)) ⌝ }
 {
     let outputs = r.outputs;
@@ -141,7 +135,7 @@ fn put_access(answer: &mut [u64], r: LoneAccess)
     put_outputs(answer, 3, outputs);
 }
 
-fn put_event(answer: &mut [u64], r: LoneEvent)
+fn put_event(answer: &mut [u64], r: SingleEvent)
     ensures { λ _. ⌜ now (answer .exit) ≡ numbered 0 (eventNumbers r) (now (answer .entry)) ⌝ }
 {
     let outputs = r.outputs;
@@ -174,19 +168,14 @@ pub extern "C" fn runnelopal_access(
 {
     let loaded = state::load(state);
     let device = loaded.device;
-    if loaded.valid {
-        let r = device.lone_access(Access {
-            write,
-            width,
-            port,
-            value,
-        });
-        let next = r.device;
-        save_unless_refused(state, r.refusal, next);
-        put_access(answer, r);
-        return r.refusal;
-    }
-    let r = device::lone::access_refused(outcome::BAD_STATE, device);
+    let r = device.single_access(Access {
+        write,
+        width,
+        port,
+        value,
+    });
+    let next = r.device;
+    save_unless_refused(state, r.refusal, next);
     put_access(answer, r);
     r.refusal
 }
@@ -200,14 +189,9 @@ pub extern "C" fn runnelopal_event(state: &mut [u8], number: u32, answer: &mut [
 {
     let loaded = state::load(state);
     let device = loaded.device;
-    if loaded.valid {
-        let r = device.lone_event(number);
-        let next = r.device;
-        save_unless_refused(state, r.refusal, next);
-        put_event(answer, r);
-        return r.refusal;
-    }
-    let r = device::lone::event_refused(outcome::BAD_STATE, device);
+    let r = device.single_event(number);
+    let next = r.device;
+    save_unless_refused(state, r.refusal, next);
     put_event(answer, r);
     r.refusal
 }

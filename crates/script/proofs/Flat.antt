@@ -12,7 +12,7 @@ use Rattle.lists.proofs.Tests.{none-from}
 use Rattle.mask.proofs.Every.{both, neither}
 use Rattle.record.specs.declared.Record.{Record}
 use Rattle.width.specs.Width.{fitsWidth, isWidth}
-use Rattle.script.specs.Nested.{Body, done, write, read, delay, repeat, if, ifElse, Reading, top, closedByEnd, closedByElse, broken, before, readRepeat, readElse, readIf, readingOf, bodyIn, scriptRecord, elseRecord, endRecord, flat}
+use Rattle.script.specs.Nested.{Body, done, write, read, delay, repeat, if, ifElse, Reading, top, closedByEnd, closedByElse, broken, prepend, readRepeat, readElse, readIf, readingOf, bodyIn, scriptRecord, elseRecord, endRecord, flat}
 use Rattle.script.specs.Fields.{kindFields}
 use Rattle.script.specs.Records.{recordCount, recordsOf}
 use Rattle.script.specs.Refusals.{badFields, badKind, badLength, firstFault, goodFields, misplaced, openAfter, recordFault, repeatsIn, scriptRefusal, tooDeep, tooManyWords, wordsIn, wrongMark}
@@ -185,14 +185,14 @@ data Closes : List Block → Reading → Type 0 where
 -- a record in front of a reading is in front of its first body (`in-front`) and of its records (`laid`)
 in-front : (f : Body → Body) {bs : List Block} {n : Reading}
     → ((b : Body) → Good (repeatsIn (numbers bs)) b → Good (repeatsIn (numbers bs)) (f b))
-    → Closes bs n → Closes bs (before f n)
+    → Closes bs n → Closes bs (prepend f n)
 in-front f g (by-top h) = by-top (g _ h)
 in-front f g (by-end h c) = by-end (g _ h) c
 in-front f g (by-else h c) = by-else (g _ h) c
 
 laid : (f : Body → Body) (g : List Record → List Record)
     → ((b : Body) (tl : List Record) → flat (f b) tl ≡ g (flat b tl))
-    → {bs : List Block} {n : Reading} → Closes bs n → unread (before f n) ≡ g (unread n)
+    → {bs : List Block} {n : Reading} → Closes bs n → unread (prepend f n) ≡ g (unread n)
 laid f g e (by-top h) = e _ _
 laid f g e (by-end h c) = e _ _
 laid f g e (by-else h c) = e _ _
@@ -204,7 +204,7 @@ record Reads (bs : List Block) (rs : List Record) (n : Reading) : Type 0 where
 front : (f : Body → Body) (r : Record) {bs : List Block} {rs : List Record} {n : Reading}
     → ((b : Body) (tl : List Record) → flat (f b) tl ≡ r ∷ flat b tl)
     → ((b : Body) → Good (repeatsIn (numbers bs)) b → Good (repeatsIn (numbers bs)) (f b))
-    → Reads bs rs n → Reads bs (r ∷ rs) (before f n)
+    → Reads bs rs n → Reads bs (r ∷ rs) (prepend f n)
 front f r e g h = record {
   closes = in-front f g (h .closes);
   same = ap (λ (l : List Record). r ∷ l) (h .same) ∙ sym (laid f (λ l. r ∷ l) e (h .closes));

@@ -112,13 +112,13 @@ good blocks depth r s p few =
     pick true l = lt-leb 8 (repeatsIn (stackOf depth blocks)) l
     pick false l = refl
 
-pub walk-within : (b : Bool) (d : ℕ) → cond b d 0 ≤ d
-walk-within true d = omega arith
-walk-within false d = omega arith
+pub search-within : (b : Bool) (d : ℕ) → cond b d 0 ≤ d
+search-within true d = omega arith
+search-within false d = omega arith
 
 -- repeats are counted only for a record that is a repeat
-pub walks : (kind d b : ℕ) → b < cond (eqb kind 4) d 0 → kind ≡ 4
-walks kind d b h = pick (eqb kind 4) refl h
+pub searched-if-repeat : (kind d b : ℕ) → b < cond (eqb kind 4) d 0 → kind ≡ 4
+searched-if-repeat kind d b h = pick (eqb kind 4) refl h
   where
     pick : (t : Bool) → eqb kind 4 ≡ t → b < cond t d 0 → kind ≡ 4
     pick true e l = eqb-true kind 4 e

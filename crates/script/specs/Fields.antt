@@ -3,7 +3,9 @@
 use Prim.Native.Nat.{ℕ}
 use mathlib.Core.Bool.{Bool, cond, _&&_, _||_}
 use lib.Dec.{eqb, leb}
+use Rattle.record.specs.Record.{mostTurns}
 use Rattle.record.specs.declared.Record.{Record}
+use Rattle.script.specs.Kind as kind
 use Rattle.width.specs.Width.{fitsWidth, isWidth}
 
 -- port, width and a value that fits the width: write, if; word 6 (test)
@@ -14,9 +16,9 @@ valueFields r = isWidth (r .width) && fitsWidth (r .width) (r .value)
 abbrev pub readFields : Record → Bool
 readFields r = isWidth (r .width) && eqb (r .value) 0
 
--- a value of at most 65,535: delay, repeat; word 4 (enter)
+-- a count of at most 65,535: delay, repeat; word 4 (enter)
 abbrev pub countFields : Record → Bool
-countFields r = eqb (r .width) 0 && (eqb (r .port) 0 && leb (r .value) 65535)
+countFields r = eqb (r .width) 0 && (eqb (r .port) 0 && leb (r .value) mostTurns)
 
 -- no field: else, end; words 5 (loop end), 7 (jump) and 8 (halt)
 abbrev pub noFields : Record → Bool
@@ -25,5 +27,5 @@ noFields r = eqb (r .width) 0 && (eqb (r .port) 0 && eqb (r .value) 0)
 -- the check by kind; `tests` is the kind that reads and tests: 5 (if) in a script, 6 (test) in an image
 abbrev pub kindFields : ℕ → Record → Bool
 kindFields tests r =
-    cond (eqb (r .kind) 1 || eqb (r .kind) tests) (valueFields r)
-    (cond (eqb (r .kind) 2) (readFields r) (cond (eqb (r .kind) 3 || eqb (r .kind) 4) (countFields r) (noFields r)))
+    cond (eqb (r .kind) kind.write || eqb (r .kind) tests) (valueFields r)
+    (cond (eqb (r .kind) kind.read) (readFields r) (cond (eqb (r .kind) kind.delay || eqb (r .kind) kind.repeat) (countFields r) (noFields r)))

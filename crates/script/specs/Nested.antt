@@ -5,6 +5,7 @@ use mathlib.Core.Bool.{cond}
 use mathlib.Core.List.{List, [], _∷_}
 use lib.Dec.{eqb}
 use Rattle.record.specs.declared.Record.{Record}
+use Rattle.script.specs.Kind as kind
 use Rattle.script.specs.Records.{recordsOf}
 
 -- the records of one level, in order; the last argument is what follows on this level
@@ -26,41 +27,41 @@ pub data Reading : Type 0 where
   broken : Reading
 
 -- puts a record in front of what was read after it
-abbrev pub before : (Body → Body) → Reading → Reading
-before f (top b) = top (f b)
-before f (closedByEnd b n) = closedByEnd (f b) n
-before f (closedByElse b n) = closedByElse (f b) n
-before f broken = broken
+abbrev pub prepend : (Body → Body) → Reading → Reading
+prepend f (top b) = top (f b)
+prepend f (closedByEnd b n) = closedByEnd (f b) n
+prepend f (closedByElse b n) = closedByElse (f b) n
+prepend f broken = broken
 
 -- a repeat takes the body up to its end
 abbrev pub readRepeat : ℕ → Reading → Reading
-readRepeat times (closedByEnd b n) = before (repeat times b) n
+readRepeat times (closedByEnd b n) = prepend (repeat times b) n
 readRepeat times (top b) = broken
 readRepeat times (closedByElse b n) = broken
 readRepeat times broken = broken
 
 -- after the else of an if, its second part is the body up to its end
 abbrev pub readElse : ℕ → ℕ → ℕ → Body → Reading → Reading
-readElse port width mask b (closedByEnd c n) = before (ifElse port width mask b c) n
+readElse port width mask b (closedByEnd c n) = prepend (ifElse port width mask b c) n
 readElse port width mask b (top c) = broken
 readElse port width mask b (closedByElse c n) = broken
 readElse port width mask b broken = broken
 
 -- an if takes the body up to its end or its else
 abbrev pub readIf : ℕ → ℕ → ℕ → Reading → Reading
-readIf port width mask (closedByEnd b n) = before (if port width mask b) n
+readIf port width mask (closedByEnd b n) = prepend (if port width mask b) n
 readIf port width mask (closedByElse b n) = readElse port width mask b n
 readIf port width mask (top b) = broken
 readIf port width mask broken = broken
 
 abbrev pub readRecord : Record → Reading → Reading
 readRecord r n =
-    cond (eqb (r .kind) 1) (before (write (r .port) (r .width) (r .value)) n)
-    (cond (eqb (r .kind) 2) (before (read (r .port) (r .width)) n)
-    (cond (eqb (r .kind) 3) (before (delay (r .value)) n)
-    (cond (eqb (r .kind) 4) (readRepeat (r .value) n)
-    (cond (eqb (r .kind) 5) (readIf (r .port) (r .width) (r .value) n)
-    (cond (eqb (r .kind) 6) (closedByElse done n) (cond (eqb (r .kind) 7) (closedByEnd done n) broken))))))
+    cond (eqb (r .kind) kind.write) (prepend (write (r .port) (r .width) (r .value)) n)
+    (cond (eqb (r .kind) kind.read) (prepend (read (r .port) (r .width)) n)
+    (cond (eqb (r .kind) kind.delay) (prepend (delay (r .value)) n)
+    (cond (eqb (r .kind) kind.repeat) (readRepeat (r .value) n)
+    (cond (eqb (r .kind) kind.if) (readIf (r .port) (r .width) (r .value) n)
+    (cond (eqb (r .kind) kind.else) (closedByElse done n) (cond (eqb (r .kind) kind.end) (closedByEnd done n) broken))))))
 
 abbrev pub readingOf : List Record → Reading
 readingOf [] = top done

@@ -12,6 +12,7 @@ use Rattle.outcome.specs.declared.Refusal.{Refusal}
 use Rattle.record.specs.Record.{mostRecords, recordSize}
 use Rattle.record.specs.declared.Record.{Record}
 use Rattle.script.specs.Fields.{kindFields}
+use Rattle.script.specs.Kind as kind
 use Rattle.script.specs.Records.{recordCount, recordsOf}
 
 -- 1: "script length no multiple of 12, or over 1,024 records (0)"
@@ -24,16 +25,25 @@ wrongMark r = not (eqb (r .mark) 0xA55A)
 
 -- 3: "kind not 1 to 7"
 abbrev pub badKind : Record → Bool
-badKind r = not (leb 1 (r .kind) && leb (r .kind) 7)
+badKind r = not (leb kind.write (r .kind) && leb (r .kind) kind.end)
 
 -- 4: "bad width, value or unused field". Kinds: 1 write, 2 read, 3 delay, 4 repeat, 5 if, 6 else, 7 end
 abbrev pub goodFields : Record → Bool
-goodFields r = eqb (r .target) 0 && kindFields 5 r
+goodFields r = eqb (r .target) 0 && kindFields kind.if r
 
 abbrev pub badFields : Record → Bool
 badFields r = not (goodFields r)
 
--- ---- the open blocks, innermost first: 4 is a repeat, 5 an if that has no else yet, 6 an if after its else
+-- ---- the open blocks, innermost first: a repeat, an if that has no else yet, an if after its else
+abbrev pub openRepeat : ℕ
+openRepeat = 4
+
+abbrev pub openIf : ℕ
+openIf = 5
+
+abbrev pub openElse : ℕ
+openElse = 6
+
 abbrev pub innermost : List ℕ → ℕ
 innermost [] = 0
 innermost (b ∷ bs) = b
@@ -44,18 +54,19 @@ outer (b ∷ bs) = bs
 
 abbrev pub repeatsIn : List ℕ → ℕ
 repeatsIn [] = 0
-repeatsIn (b ∷ bs) = cond (eqb b 4) (suc (repeatsIn bs)) (repeatsIn bs)
+repeatsIn (b ∷ bs) = cond (eqb b openRepeat) (suc (repeatsIn bs)) (repeatsIn bs)
 
 -- the open blocks after a record of this kind
 abbrev pub openAfter : List ℕ → ℕ → List ℕ
-openAfter blocks kind =
-    cond (eqb kind 4) (4 ∷ blocks)
-    (cond (eqb kind 5) (5 ∷ blocks) (cond (eqb kind 6) (6 ∷ outer blocks) (cond (eqb kind 7) (outer blocks) blocks)))
+openAfter blocks k =
+    cond (eqb k kind.repeat) (openRepeat ∷ blocks)
+    (cond (eqb k kind.if) (openIf ∷ blocks)
+    (cond (eqb k kind.else) (openElse ∷ outer blocks) (cond (eqb k kind.end) (outer blocks) blocks)))
 
 -- 5: "else not in an if still without one; end with no open block"; "in" means in the innermost open block
 abbrev pub misplaced : List ℕ → ℕ → Bool
-misplaced blocks kind =
-    (eqb kind 6 && not (eqb (innermost blocks) 5)) || (eqb kind 7 && eqb (innermost blocks) 0)
+misplaced blocks k =
+    (eqb k kind.else && not (eqb (innermost blocks) openIf)) || (eqb k kind.end && eqb (innermost blocks) 0)
 
 abbrev pub mostBlocks : ℕ
 mostBlocks = 16
@@ -65,8 +76,8 @@ mostRepeats = 8
 
 -- 6: "a block opened inside 16, or a repeat inside 8 repeats"
 abbrev pub tooDeep : List ℕ → ℕ → Bool
-tooDeep blocks kind =
-    ((eqb kind 4 || eqb kind 5) && leb mostBlocks (length blocks)) || (eqb kind 4 && leb mostRepeats (repeatsIn blocks))
+tooDeep blocks k =
+    ((eqb k kind.repeat || eqb k kind.if) && leb mostBlocks (length blocks)) || (eqb k kind.repeat && leb mostRepeats (repeatsIn blocks))
 
 -- the smallest number of the refusals of a record, or 0
 unfoldable pub recordFault : List ℕ → Record → ℕ
@@ -82,7 +93,7 @@ firstFault blocks place (r ∷ rs) =
 
 -- "Records give one word in order, except that the end of an if gives none; a halt follows."
 abbrev pub emitsWord : List ℕ → ℕ → Bool
-emitsWord blocks kind = not (eqb kind 7) || eqb (innermost blocks) 4
+emitsWord blocks k = not (eqb k kind.end) || eqb (innermost blocks) openRepeat
 
 -- the words of these records, and the halt
 abbrev pub wordCount : List ℕ → List Record → ℕ

@@ -8,6 +8,7 @@ use lib.Dec.{eqb, leb}
 use lib.ListN.{length}
 use Rattle.lists.specs.Tests.{firstFrom}
 use Rattle.record.specs.declared.Record.{Record}
+use Rattle.script.specs.Kind as kind
 use Rattle.script.specs.Records.{recordsOf}
 use Rattle.script.specs.Refusals.{badFields, badKind, firstFault, misplaced, mostBlocks, scriptRefusal, wordsIn, wrongMark}
 use Rattle.outcome.specs.Number as number
@@ -25,7 +26,7 @@ pub record OpenArray (blocks : List ℕ) (depth : ℕ) : Type 0 where
 
 -- a part of refusal 6: a block opened inside 16 blocks
 abbrev pub full : (depth kind : ℕ) → Bool
-full depth kind = (eqb kind 4 || eqb kind 5) && leb mostBlocks depth
+full depth k = (eqb k kind.repeat || eqb k kind.if) && leb mostBlocks depth
 
 -- the fault that a record has by its place, without counting repeats: 5 or 6, or 0
 unfoldable pub placeFault : List ℕ → ℕ → ℕ

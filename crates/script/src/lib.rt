@@ -9,7 +9,8 @@ ghost use lib.ListN.{length};
 ghost use Rattle.lists.specs.Stack.{stackOf};
 ghost use Rattle.record.specs.Record.{mostRecords, recordSize};
 ghost use Rattle.script.specs.Fields.{valueFields, readFields, countFields, noFields, kindFields};
-ghost use Rattle.script.specs.Refusals.{badLength, goodFields, innermost, misplaced, mostBlocks, openAfter, emitsWord};
+ghost use Rattle.script.specs.Kind as recordKind;
+ghost use Rattle.script.specs.Refusals.{badLength, goodFields, innermost, misplaced, mostBlocks, openAfter, openRepeat, emitsWord};
 ghost use Rattle.script.specs.Scan.{
   OpenArray,
   full,
@@ -76,7 +77,7 @@ pub fn read_fields(r: Record) -> bool
     false
 }
 
-// A value of at most 65,535: delay, repeat, and the word enter.
+// A count of at most 65,535: delay, repeat, and the word enter.
 pub fn count_fields(r: Record) -> bool
     ensures { λ b. ⌜ b ≡ countFields r ⌝ }
 {
@@ -86,7 +87,7 @@ pub fn count_fields(r: Record) -> bool
     if r.port != 0 {
         return false;
     }
-    r.value <= 65535
+    r.value <= Record::MOST_TURNS
 }
 
 // No field: else, end, and the words loop end, jump and halt.
@@ -206,8 +207,8 @@ fn place_fault(blocks: &[u8; MOST_BLOCKS], depth: usize, kind: u32) -> u32
 }
 
 // How many open blocks are searched for repeats: all of them for a repeat, otherwise none.
-fn walk(depth: usize, kind: u32) -> usize
-    ensures { λ r. ⌜ r ≡ cond (eqb kind 4) depth 0 ⌝ }
+fn blocks_to_search(depth: usize, kind: u32) -> usize
+    ensures { λ r. ⌜ r ≡ cond (eqb kind recordKind.repeat) depth 0 ⌝ }
 {
     if kind == REPEAT {
         return depth;
@@ -217,7 +218,7 @@ fn walk(depth: usize, kind: u32) -> usize
 
 // 1 for a repeat, otherwise 0.
 fn is_repeat(block: u8) -> u32
-    ensures { λ r. ⌜ r ≡ cond (eqb block 4) 1 0 ⌝ }
+    ensures { λ r. ⌜ r ≡ cond (eqb block openRepeat) 1 0 ⌝ }
 {
     if block == OPEN_REPEAT {
         return 1;
@@ -298,10 +299,10 @@ fn scan_records(script: &[u8], count: usize) -> ScanResult
                 break 'scan;
             }
         }
-        let walk = walk(depth, kind);
+        let searched = blocks_to_search(depth, kind);
         let mut repeats: u32 = 0;
         let mut b: usize = 0;
-        while b < walk {
+        while b < searched {
             repeats = repeats + is_repeat(blocks[b]);
             if repeats == MOST_REPEATS {
                 number = outcome::TOO_DEEP;

@@ -92,16 +92,16 @@ place-beyond {image} {whole} {events} {lent} {budget} {log} {x} {steps} r g l b 
     ends 21 steps whole r (g .holds) (rw t at (one-step g l)) e
 
 -- ---- the word at the place, and its fault, as the code has them
-pub record Looked (image : List ℕ) (log : List ℕ) (x : RunState) (word : Record) (fault : ℕ) : Type 0 where
+pub record Fetch (image : List ℕ) (log : List ℕ) (x : RunState) (word : Record) (fault : ℕ) : Type 0 where
   pub there : x .place < imageWords image
   pub word-is : word ≡ wordAt image (x .place)
   pub fault-is : fault ≡ wordFault (imageWords image) (length log) (x .used) (x .logged) word
 
-pub looked :
+pub fetched :
     {image log : List ℕ} {x : RunState} {word : Record} {fault at : ℕ} → x .place < imageWords image
     → word ≡ recordAt image (12 * at) → at ≡ x .place
-    → fault ≡ wordFault (imageWords image) (length log) (x .used) (x .logged) word → Looked image log x word fault
-looked {image} there read at-is fault-is = record {
+    → fault ≡ wordFault (imageWords image) (length log) (x .used) (x .logged) word → Fetch image log x word fault
+fetched {image} there read at-is fault-is = record {
   there = there;
   word-is = read ∙ ap (wordAt image) at-is;
   fault-is = fault-is;
@@ -110,7 +110,7 @@ looked {image} there read at-is fault-is = record {
 -- the next step of the machine is the step of this word
 step-is :
     {image : List ℕ} {whole : RunEnd} {events lent : List ℕ} {budget : ℕ} {log : List ℕ} {x : RunState} {steps : ℕ}
-    (g : LoopInvariant image whole events lent budget log x steps) {word : Record} {fault : ℕ} → Looked image log x word fault
+    (g : LoopInvariant image whole events lent budget log x steps) {word : Record} {fault : ℕ} → Fetch image log x word fault
     → nextStep image (length lent) (g .machine) ≡ stepFrom word fault (g .machine)
 unfolding nextStep
 step-is {image} {whole} {events} {lent} {budget} {log} {x} {steps} g {word} {fault} k =
@@ -125,7 +125,7 @@ step-is {image} {whole} {events} {lent} {budget} {log} {x} {steps} g {word} {fau
 pub faulted :
     {image : List ℕ} {whole : RunEnd} {events lent : List ℕ} {budget : ℕ} {log : List ℕ} {x : RunState} {steps : ℕ} (r : RunResult)
     {word : Record} {fault : ℕ} → LoopInvariant image whole events lent budget log x steps → steps < budget
-    → Looked image log x word fault → (fault ≡ 0 → ⊥) → r ≡ answer fault steps x → EndsAs events lent log r whole
+    → Fetch image log x word fault → (fault ≡ 0 → ⊥) → r ≡ answer fault steps x → EndsAs events lent log r whole
 faulted {image} {whole} {events} {lent} {budget} {log} {x} {steps} r {word} {fault} g l k n e =
     ends fault steps whole r (g .holds) (rw (step-is g k, ne-eqb fault 0 n) at (one-step g l)) e
 
@@ -133,7 +133,7 @@ faulted {image} {whole} {events} {lent} {budget} {log} {x} {steps} r {word} {fau
 pub halted :
     {image : List ℕ} {whole : RunEnd} {events lent : List ℕ} {budget : ℕ} {log : List ℕ} {x : RunState} {steps : ℕ} (r : RunResult)
     {word : Record} {fault : ℕ} → LoopInvariant image whole events lent budget log x steps → steps < budget
-    → Looked image log x word fault → fault ≡ 0 → word .kind ≡ 8 → r ≡ answer 0 (steps + 1) x
+    → Fetch image log x word fault → fault ≡ 0 → word .kind ≡ 8 → r ≡ answer 0 (steps + 1) x
     → EndsAs events lent log r whole
 halted {image} {whole} {events} {lent} {budget} {log} {x} {steps} r {word} {fault} g l k z h e =
     ends 0 (suc steps) whole r (g .holds) (rw (step-is g k, eq-eqb fault 0 z, h) at (one-step g l))
@@ -143,7 +143,7 @@ halted {image} {whole} {events} {lent} {budget} {log} {x} {steps} r {word} {faul
 pub further :
     {image : List ℕ} {whole : RunEnd} {events lent : List ℕ} {budget : ℕ} {log : List ℕ} {x : RunState} {steps : ℕ}
     {word : Record} {fault : ℕ} (y : RunState) (log' : List ℕ) → LoopInvariant image whole events lent budget log x steps
-    → steps < budget → Looked image log x word fault → fault ≡ 0 → (word .kind ≡ 8 → ⊥) → Implements word events x log y log'
+    → steps < budget → Fetch image log x word fault → fault ≡ 0 → (word .kind ≡ 8 → ⊥) → Implements word events x log y log'
     → length log' ≡ length log → LoopInvariant image whole events lent budget log' y (steps + 1)
 further {image} {whole} {events} {lent} {budget} {log} {x} {steps} {word} {fault} y log' g l k z h s e =
     let n = one-step g l in

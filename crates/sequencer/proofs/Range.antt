@@ -40,7 +40,7 @@ use Rattle.step.specs.Step.{
   enter,
   faultAt,
   faults,
-  goesOn,
+  continues,
   halts,
   logFull,
   loopEnd,
@@ -59,17 +59,17 @@ use Rattle.step.proofs.CounterArray.{AllCount, counters-in-range, array-in-rang
 
 -- ---- a property that every step keeps holds at the end of a run
 -- a step that does not end the run executes a word without a fault
-pub goes-on :
-    (image : List ℕ) (room : ℕ) (m n : Machine) → nextStep image room m ≡ goesOn n
+pub when-continues :
+    (image : List ℕ) (room : ℕ) (m n : Machine) → nextStep image room m ≡ continues n
     → (faultAt image room m ≡ 0) × (execute (wordAt image (m .place)) m ≡ n)
 unfolding nextStep
-goes-on image room m n h =
+when-continues image room m n h =
     pick (leb (imageWords image) (m .place)) (eqb (faultAt image room m) 0) (eqb (wordAt image (m .place) .kind) 8) refl h
   where
     pick : (a b c : Bool) → eqb (faultAt image room m) 0 ≡ b
         → cond a (faults 21)
-        (cond b (cond c halts (goesOn (execute (wordAt image (m .place)) m))) (faults (faultAt image room m)))
-        ≡ goesOn n
+        (cond b (cond c halts (continues (execute (wordAt image (m .place)) m))) (faults (faultAt image room m)))
+        ≡ continues n
         → (faultAt image room m ≡ 0) × (execute (wordAt image (m .place)) m ≡ n)
     pick true b c q z = let y : _≡_ {A = ℕ} 0 1 = cc in absurd (omega arith)
     pick false false c q z = let y : _≡_ {A = ℕ} 0 1 = cc in absurd (omega arith)
@@ -83,16 +83,16 @@ Keeps room P =
     → P (execute r m)
 
 module _ (image : List ℕ) (room : ℕ) (P : Machine → Type 0) (keeps : Keeps room P) where
-  step-keeps : (m n : Machine) → nextStep image room m ≡ goesOn n → P m → P n
+  step-keeps : (m n : Machine) → nextStep image room m ≡ continues n → P m → P n
   step-keeps m n e h =
-      let g = goes-on image room m n e in
+      let g = when-continues image room m n e in
       let r = wordAt image (m .place) in
       rw (g .1) at (keeps (imageWords image) r m (clean (imageWords image) room _ _ r (g .0)) h)
 
   follow-keeps :
       (rest : Machine → RunEnd) (steps : ℕ) (m : Machine) → P m → ((n : Machine) → P n → P (rest n .machine))
       → (s : Step) → nextStep image room m ≡ s → P (follow rest steps m s .machine)
-  follow-keeps rest steps m h i (goesOn n) e = i n (step-keeps m n e h)
+  follow-keeps rest steps m h i (continues n) e = i n (step-keeps m n e h)
   follow-keeps rest steps m h i halts e = h
   follow-keeps rest steps m h i (faults f) e = h
 
@@ -208,7 +208,7 @@ run-in-range image d s events budget log h k =
 follow-within :
     (rest : Machine → RunEnd) (left steps : ℕ) (m : Machine) → ((n : Machine) → rest n .steps ≤ suc steps + left)
     → (s : Step) → follow rest steps m s .steps ≤ steps + suc left
-follow-within rest left steps m h (goesOn n) = omega (arith, h n)
+follow-within rest left steps m h (continues n) = omega (arith, h n)
 follow-within rest left steps m h halts = omega arith
 follow-within rest left steps m h (faults f) = omega arith
 
@@ -304,6 +304,6 @@ run-in-two image room (suc a) b steps m h =
         → runFrom image room (a + b) (suc steps) n ≡ runFrom image room b (suc steps + a) (near n .machine)) → (s : Step)
         → nextStep image room m ≡ s → follow near steps m s .outcome ≡ 19
         → follow (runFrom image room (a + b) (suc steps)) steps m s ≡ runFrom image room b (suc steps + a) (follow near steps m s .machine)
-    pick i (goesOn n) p z = i n z
+    pick i (continues n) p z = i n z
     pick i halts p z = absurd (omega (arith, z))
     pick i (faults f) p z = absurd (step-not-19 image room m f p z)

@@ -15,7 +15,7 @@ use Rattle.outcome.specs.Refusal.{refusal}
 use Rattle.outcome.specs.declared.Refusal.{Refusal}
 use Rattle.semantics.specs.World.{startWorld}
 use Rattle.step.specs.Sequencer.{countersOf, sequencerAt, sequencerInRange}
-use Rattle.step.specs.Step.{Machine, Step, faults, logFilled, goesOn, halts, machine, nextStep}
+use Rattle.step.specs.Step.{Machine, Step, faults, logFilled, continues, halts, machine, nextStep}
 use Rattle.step.specs.Word.{imageWords}
 use Rattle.sequencer.specs.declared.RunResult.{RunResult}
 use Rattle.outcome.specs.declared.Refusal.{Refusal}
@@ -33,7 +33,7 @@ runEnd o n m = record { outcome = o; steps = n; machine = m }
 -- after a step: the rest of the run, or its end. "Steps: one per word executed, halt included." "A faulting word does
 -- nothing, takes no event and counts no step. Halt stays on its own word."
 abbrev pub follow : (Machine → RunEnd) → ℕ → Machine → Step → RunEnd
-follow rest steps m (goesOn n) = rest n
+follow rest steps m (continues n) = rest n
 follow rest steps m halts = runEnd ending.halted (suc steps) m
 follow rest steps m (faults f) = runEnd f steps m
 

@@ -5,6 +5,7 @@ use device::AccessResult;
 use device::Device;
 use outcome::Refusal;
 use record::Record;
+use record::word_kind;
 use step::COUNTERS;
 use step::Sequencer;
 use step::execute;
@@ -159,22 +160,22 @@ fn run_result(
     outcome: u32,
     steps: u32,
     device: Device,
-    x: Position,
+    position: Position,
     counters: [u32; COUNTERS],
 ) -> RunResult
-    ensures { λ r. ⌜ r ≡ answer outcome steps (runState device x counters) ⌝ }
+    ensures { λ r. ⌜ r ≡ answer outcome steps (runState device position counters) ⌝ }
 {
     let sequencer = Sequencer {
-        place: x.place,
+        place: position.place,
         counters,
-        used: x.used,
+        used: position.used,
     };
     RunResult {
         outcome,
         place: 0,
         steps,
-        taken: x.taken,
-        logged: x.logged,
+        taken: position.taken,
+        logged: position.logged,
         sequencer,
         device,
     }
@@ -212,45 +213,57 @@ fn run_words(
         device,
         answer: Answer::status_only(Answer::DONE),
     };
-    let mut x = start(sequencer);
+    let mut position = start(sequencer);
     let mut counters = counters_of(sequencer);
     let mut steps: u32 = 0;
     while steps < budget {
-        if words <= x.place {
-            return run_result(outcome::BEYOND_LAST_WORD, steps, last.device, x, counters);
+        if words <= position.place {
+            return run_result(
+                outcome::BEYOND_LAST_WORD,
+                steps,
+                last.device,
+                position,
+                counters,
+            );
         }
-        let word = record::read(image, Record::SIZE * index(x.place));
-        let fault = word::fault(words, log.len(), x.used, x.logged, word);
+        let word = record::read(image, Record::SIZE * index(position.place));
+        let fault = word::fault(words, log.len(), position.used, position.logged, word);
         if fault != 0 {
-            return run_result(fault, steps, last.device, x, counters);
+            return run_result(fault, steps, last.device, position, counters);
         }
-        if word.kind == word::HALT {
-            return run_result(outcome::HALTED, steps + 1, last.device, x, counters);
+        if word.kind == word_kind::HALT {
+            return run_result(outcome::HALTED, steps + 1, last.device, position, counters);
         }
         if word::is_control(word) {
-            let next = x.execute_control(word, &mut counters);
-            x.used = next.used;
-            x.place = next.place;
+            let next = position.execute_control(word, &mut counters);
+            position.used = next.used;
+            position.place = next.place;
             steps = count_step(steps);
-        } else if word.kind == word::DELAY {
+        } else if word.kind == word_kind::DELAY {
             let delayed = last.device
                 .apply_event(device::event::tick_event(word.value));
             last.device = delayed;
-            x.place = x.place + 1;
+            position.place = position.place + 1;
             steps = count_step(steps);
         } else {
             // The next event, if there is one, is applied before the access.
-            let taken = x.taken;
+            let taken = position.taken;
             if taken < events.len() {
                 let arrived = last.device.apply_event(events[taken]);
                 last.device = arrived;
             }
             last = last.device.access(execute::access_of(word));
-            x = x.apply_answer(word, last.answer.value, events, log);
+            position = position.apply_answer(word, last.answer.value, events, log);
             steps = count_step(steps);
         }
     }
-    run_result(outcome::BUDGET_SPENT, steps, last.device, x, counters)
+    run_result(
+        outcome::BUDGET_SPENT,
+        steps,
+        last.device,
+        position,
+        counters,
+    )
 }
 
 // Runs an image, starting at the place and with the counters of `sequencer`. A run with budget 1 is a single step.

@@ -15,7 +15,7 @@ use Rattle.device.specs.Dispatch.{deviceAccess}
 use Rattle.device.specs.declared.Device.{Device}
 use Rattle.device.specs.declared.AccessResult.{AccessResult}
 use Rattle.mask.specs.Mask.{hasBit}
-use Rattle.record.proofs.Stores.{stored}
+use Rattle.lists.proofs.Stores.{stored}
 use Rattle.record.specs.declared.Record.{Record}
 use Rattle.semantics.specs.World.{
   afterAccess,

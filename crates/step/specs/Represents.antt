@@ -11,6 +11,7 @@ use Rattle.device.specs.Dispatch.{deviceAccess}
 use Rattle.device.specs.declared.Device.{Device}
 use Rattle.device.specs.declared.AccessResult.{AccessResult}
 use Rattle.semantics.specs.World.{afterNextEvent, readOf, writeOf}
+use Rattle.record.specs.WordKind as wordKind
 use Rattle.record.specs.declared.Record.{Record}
 use Rattle.step.specs.Sequencer.{counterArray, counterCount}
 use Rattle.step.specs.Step.{Machine, execute, logFilled}
@@ -38,7 +39,7 @@ runState d x cs = record {
 
 -- control words: enter, loop end, jump
 abbrev pub isControl : Record → Bool
-isControl r = eqb (r .kind) 4 || (eqb (r .kind) 5 || eqb (r .kind) 7)
+isControl r = eqb (r .kind) wordKind.enter || (eqb (r .kind) wordKind.loopEnd || eqb (r .kind) wordKind.jump)
 
 -- x represents m; `lent` is the log before the run, `log` the log now
 pub record Represents (x : RunState) (events lent log : List ℕ) (m : Machine) : Type 0 where
@@ -79,18 +80,18 @@ KeepsCounters word x y = (cs : List ℕ) → KeepsDevice word x cs y cs
 
 -- ---- what `execute_control` and `apply_answer` require; it holds for every word without a fault (proofs/Faults.antt)
 pub record ControlReady (x : Position) (word : Record) : Type 0 where
-  pub enters : word .kind ≡ 4 → counterCount ≤ x .used → word .value ≡ 0
-  pub loops : word .kind ≡ 5 → 0 < x .used
+  pub enters : word .kind ≡ wordKind.enter → counterCount ≤ x .used → word .value ≡ 0
+  pub loops : word .kind ≡ wordKind.loopEnd → 0 < x .used
   pub few : x .used ≤ counterCount
-  pub jumps : (word .kind ≡ 4 → ⊥) → (word .kind ≡ 5 → ⊥) → word .kind ≡ 7
+  pub jumps : (word .kind ≡ wordKind.enter → ⊥) → (word .kind ≡ wordKind.loopEnd → ⊥) → word .kind ≡ wordKind.jump
 
 pub record AccessReady (x : Position) (word : Record) (log : List ℕ) : Type 0 where
-  pub reads : word .kind ≡ 2 → x .logged < length log
-  pub tests : (word .kind ≡ 1 → ⊥) → (word .kind ≡ 2 → ⊥) → word .kind ≡ 6
+  pub reads : word .kind ≡ wordKind.read → x .logged < length log
+  pub tests : (word .kind ≡ wordKind.write → ⊥) → (word .kind ≡ wordKind.read → ⊥) → word .kind ≡ wordKind.test
 
 -- ---- the words that access the device
 abbrev pub accessOf : Record → Access
-accessOf r = cond (eqb (r .kind) 1) (writeOf (r .port) (r .width) (r .value)) (readOf (r .port) (r .width))
+accessOf r = cond (eqb (r .kind) wordKind.write) (writeOf (r .port) (r .width) (r .value)) (readOf (r .port) (r .width))
 
 -- the step of the code does what the word does, given the value that the access returned after the next event
 abbrev pub ImplementsAccess : Record → ℕ → List ℕ → Position → List ℕ → Position → List ℕ → Type 0

@@ -6,6 +6,7 @@ use lib.Dec.{eqb, leb, ltb}
 use lib.ListN.{getD, length, replicate}
 use Rattle.lists.specs.Stack.{stackOf}
 use Rattle.mask.specs.Every.{allBelow}
+use Rattle.record.specs.Record.{mostTurns}
 use Rattle.step.specs.declared.Sequencer.{Sequencer}
 
 abbrev pub counterCount : ℕ
@@ -16,7 +17,7 @@ abbrev pub freshSequencer : Sequencer
 freshSequencer = record { place = 0; counters = replicate counterCount 0; used = 0 }
 
 abbrev pub counterInRange : (used k counter : ℕ) → Bool
-counterInRange used k c = cond (ltb k used) (leb 1 c && leb c 65535) (eqb c 0)
+counterInRange used k c = cond (ltb k used) (leb 1 c && leb c mostTurns) (eqb c 0)
 
 -- "at most 8 counters, those in use 1 to 65,535, the rest 0"; any place is valid, and a place not in the image ends the run with 21
 unfoldable pub sequencerInRange : Sequencer → Bool

@@ -6,6 +6,7 @@ use mathlib.Core.List.{List, _∷_, _++_}
 use lib.Dec.{eqb, leb}
 use lib.ListN.{drop, length}
 use Rattle.outcome.specs.Ending as ending
+use Rattle.record.specs.WordKind as wordKind
 use Rattle.record.specs.declared.Record.{Record}
 use Rattle.script.specs.Refusals.{innermost, outer}
 use Rattle.semantics.specs.World.{World, afterWrite, afterRead, afterTest, sharesOne, afterDelay}
@@ -28,15 +29,15 @@ targetBeyond words r = usesTarget r && leb words (r .target)
 
 -- 22: "ninth counter"
 abbrev pub ninthCounter : (used : ℕ) → Record → Bool
-ninthCounter used r = eqb (r .kind) 4 && (not (eqb (r .value) 0) && leb counterCount used)
+ninthCounter used r = eqb (r .kind) wordKind.enter && (not (eqb (r .value) 0) && leb counterCount used)
 
 -- 23: "loop end without one"
 abbrev pub noCounter : (used : ℕ) → Record → Bool
-noCounter used r = eqb (r .kind) 5 && eqb used 0
+noCounter used r = eqb (r .kind) wordKind.loopEnd && eqb used 0
 
 -- 24: "log full"
 abbrev pub logFull : (room logged : ℕ) → Record → Bool
-logFull room logged r = eqb (r .kind) 2 && leb room logged
+logFull room logged r = eqb (r .kind) wordKind.read && leb room logged
 
 -- the first fault, or 0: "20, 21 for the target (taken or not), 22 to 24"
 unfoldable pub wordFault : (words room used logged : ℕ) → Record → ℕ
@@ -68,21 +69,21 @@ testWord r m =
 -- "1, 2, 3 as above; 4 enter [..]; 5 loop end [..]; 6 test [..]; 7 jump"
 unfoldable pub execute : Record → Machine → Machine
 execute r m =
-    cond (eqb (r .kind) 1) (machine (suc (m .place)) (m .counters) (afterWrite (r .port) (r .width) (r .value) (m .world)))
-    (cond (eqb (r .kind) 2) (machine (suc (m .place)) (m .counters) (afterRead (r .port) (r .width) (m .world)))
-    (cond (eqb (r .kind) 3) (machine (suc (m .place)) (m .counters) (afterDelay (r .value) (m .world)))
-    (cond (eqb (r .kind) 4) (enter r m)
-    (cond (eqb (r .kind) 5) (loopEnd r m)
-    (cond (eqb (r .kind) 6) (testWord r m) (machine (r .target) (m .counters) (m .world)))))))
+    cond (eqb (r .kind) wordKind.write) (machine (suc (m .place)) (m .counters) (afterWrite (r .port) (r .width) (r .value) (m .world)))
+    (cond (eqb (r .kind) wordKind.read) (machine (suc (m .place)) (m .counters) (afterRead (r .port) (r .width) (m .world)))
+    (cond (eqb (r .kind) wordKind.delay) (machine (suc (m .place)) (m .counters) (afterDelay (r .value) (m .world)))
+    (cond (eqb (r .kind) wordKind.enter) (enter r m)
+    (cond (eqb (r .kind) wordKind.loopEnd) (loopEnd r m)
+    (cond (eqb (r .kind) wordKind.test) (testWord r m) (machine (r .target) (m .counters) (m .world)))))))
 
 -- ---- one step, without the budget
 pub data Step : Type 0 where
-  goesOn : Machine → Step
+  continues : Machine → Step
   halts : Step
   faults : ℕ → Step
 
 abbrev pub stepFrom : Record → ℕ → Machine → Step
-stepFrom r fault m = cond (eqb fault 0) (cond (eqb (r .kind) 8) halts (goesOn (execute r m))) (faults fault)
+stepFrom r fault m = cond (eqb fault 0) (cond (eqb (r .kind) wordKind.halt) halts (continues (execute r m))) (faults fault)
 
 abbrev pub faultAt : List ℕ → ℕ → Machine → ℕ
 faultAt image room m =

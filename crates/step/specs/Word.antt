@@ -5,6 +5,7 @@ use mathlib.Core.List.{List}
 use lib.Dec.{eqb, leb}
 use lib.ListN.{length}
 use Rattle.record.specs.Record.{recordAt, recordSize}
+use Rattle.record.specs.WordKind as wordKind
 use Rattle.record.specs.declared.Record.{Record}
 use Rattle.script.specs.Fields.{kindFields}
 
@@ -20,15 +21,15 @@ wrongWordMark r = not (eqb (r .mark) 0x3CC3)
 
 -- "1, 2, 3 as above; 4 enter [..]; 5 loop end [..]; 6 test [..]; 7 jump; 8 halt"
 abbrev pub badWordKind : Record → Bool
-badWordKind r = not (leb 1 (r .kind) && leb (r .kind) 8)
+badWordKind r = not (leb wordKind.write (r .kind) && leb (r .kind) wordKind.halt)
 
 -- "4 to 7 use target too"
 abbrev pub usesTarget : Record → Bool
-usesTarget r = leb 4 (r .kind) && leb (r .kind) 7
+usesTarget r = leb wordKind.enter (r .kind) && leb (r .kind) wordKind.jump
 
 -- "Word 4 has script kind 4's fields and value rule, word 6 those of script kind 5"; "Unused fields are zero."
 abbrev pub goodWordFields : Record → Bool
-goodWordFields r = (usesTarget r || eqb (r .target) 0) && kindFields 6 r
+goodWordFields r = (usesTarget r || eqb (r .target) 0) && kindFields wordKind.test r
 
 -- "A bad word has a wrong mark, a kind not 1 to 8, or a width, value or unused field wrong by the rules above."
 unfoldable pub badWord : Record → Bool

@@ -1,13 +1,16 @@
 // What one word does when it neither faults nor halts: its access, and its effect on the place, the loop counters and the
 // log. The loop of `sequencer` calls these functions and makes the access itself. See docs/CHIP.md, "Words" and "Runs".
 use crate::COUNTERS;
-use crate::word;
 use access::Access;
 use record::Record;
+use record::word_kind;
 ghost use mathlib.Core.Path.{_≡_};
 ghost use Prim.Native.Nat.{_≤_, _<_};
 ghost use lib.ListN.{length, drop};
+ghost use Rattle.record.specs.Record.{mostRecords};
+ghost use Rattle.record.specs.WordKind as wordKind;
 ghost use Rattle.semantics.specs.World.{eventsAfter, readOf, writeOf};
+ghost use Rattle.step.specs.Sequencer.{counterCount};
 ghost use Rattle.step.specs.Represents.{ImplementsAccess, AccessReady, ControlReady, KeepsDevice, KeepsCounters, accessOf};
 
 // The state of a run, besides its device and its counters: the place of the next word, and the numbers of counters in use, of
@@ -56,7 +59,7 @@ fn write_of(word: Record) -> Access
 pub fn access_of(word: Record) -> Access
     ensures { λ r. ⌜ r ≡ accessOf word ⌝ }
 {
-    if word.kind == word::WRITE {
+    if word.kind == word_kind::WRITE {
         return write_of(word);
     }
     read_of(word)
@@ -74,7 +77,7 @@ pub struct ControlResult {
 impl Position {
     // A count of 0 jumps over the loop and pushes no counter.
     fn enter(self, word: Record, counters: &mut [u32; COUNTERS]) -> ControlResult
-        requires { ⌜ (self .place < 4096) × (word .kind ≡ 4) × (8 ≤ self .used → word .value ≡ 0) ⌝ }
+        requires { ⌜ (self .place < mostRecords) × (word .kind ≡ wordKind.enter) × (counterCount ≤ self .used → word .value ≡ 0) ⌝ }
         ensures { λ r. ⌜ KeepsDevice word self (now (counters .entry)) r (now (counters .exit)) ⌝ }
     {
         let used = self.used;
@@ -95,7 +98,7 @@ impl Position {
 
     // Subtracts 1 from the top counter. A counter that reaches 0 is popped.
     fn loop_end(self, word: Record, counters: &mut [u32; COUNTERS]) -> ControlResult
-        requires { ⌜ (self .place < 4096) × (word .kind ≡ 5) × (0 < self .used) × (self .used ≤ 8) ⌝ }
+        requires { ⌜ (self .place < mostRecords) × (word .kind ≡ wordKind.loopEnd) × (0 < self .used) × (self .used ≤ counterCount) ⌝ }
         ensures { λ r. ⌜ KeepsDevice word self (now (counters .entry)) r (now (counters .exit)) ⌝ }
     {
         let top = self.used - 1;
@@ -113,7 +116,7 @@ impl Position {
     }
 
     fn jump(self, word: Record) -> ControlResult
-        requires { ⌜ word .kind ≡ 7 ⌝ }
+        requires { ⌜ word .kind ≡ wordKind.jump ⌝ }
         ensures { λ r. ⌜ KeepsCounters word self r ⌝ }
     {
         ControlResult {
@@ -123,14 +126,14 @@ impl Position {
     }
 
     pub fn execute_control(self, word: Record, counters: &mut [u32; COUNTERS]) -> ControlResult
-        requires { ⌜ (self .place < 4096) × ControlReady self word ⌝ }
+        requires { ⌜ (self .place < mostRecords) × ControlReady self word ⌝ }
         ensures { λ r. ⌜ KeepsDevice word self (now (counters .entry)) r (now (counters .exit)) ⌝ }
     {
         let kind = word.kind;
-        if kind == word::ENTER {
+        if kind == word_kind::ENTER {
             return self.enter(word, counters);
         }
-        if kind == word::LOOP_END {
+        if kind == word_kind::LOOP_END {
             return self.loop_end(word, counters);
         }
         self.jump(word)
@@ -143,20 +146,20 @@ impl Position {
     // Completes a write, a read or a test whose access returned `value`: counts its event, logs the value of a read, and moves to
     // the next place. A test whose mask has no common 1 with the value jumps.
     pub fn apply_answer(mut self, word: Record, value: u32, events: &[u32], log: &mut [u32]) -> Self
-        requires { ⌜ (self .place < 4096) × (self .taken ≤ length (now events)) × AccessReady self word (now log) ⌝ }
+        requires { ⌜ (self .place < mostRecords) × (self .taken ≤ length (now events)) × AccessReady self word (now log) ⌝ }
         ensures { λ r. ⌜ ImplementsAccess word value (now (events .entry)) self (now (log .entry)) r (now (log .exit)) ⌝ }
     {
         let kind = word.kind;
         let after = events_taken(events, self.taken);
         self.taken = after;
-        if kind == word::READ {
+        if kind == word_kind::READ {
             let at = self.logged;
             log[at] = value;
             self.logged = at + 1;
             self.place = self.place + 1;
             return self;
         }
-        if kind == word::WRITE {
+        if kind == word_kind::WRITE {
             self.place = self.place + 1;
             return self;
         }

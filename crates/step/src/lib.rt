@@ -3,14 +3,12 @@
 pub mod execute;
 pub mod word;
 
+use record::Record;
 ghost use mathlib.Core.Path.{_≡_};
 ghost use Rattle.step.specs.Sequencer.{freshSequencer, counterInRange, sequencerInRange};
 
 // The number of loop counters.
 pub const COUNTERS: usize = 8;
-
-// The largest count of a repeat, and so of a counter.
-const MOST_TURNS: u32 = 65535;
 
 // The place of the next word, and the loop counters, outermost loop first. `used` of them are in use; the others are 0.
 pub struct Sequencer {
@@ -26,7 +24,7 @@ fn counter_in_range(used: usize, k: usize, counter: u32) -> bool
         if counter < 1 {
             return false;
         }
-        return counter <= MOST_TURNS;
+        return counter <= Record::MOST_TURNS;
     }
     counter == 0
 }

@@ -1,7 +1,8 @@
-// The kinds of words, and `fault`, which checks a word before it is executed. `sequencer` calls it for every word.
+// `fault` checks a word before it is executed. `sequencer` calls it for every word.
 // See docs/CHIP.md, "Words" and "Runs".
 use crate::COUNTERS;
 use record::Record;
+use record::word_kind;
 ghost use mathlib.Core.Path.{_≡_};
 ghost use mathlib.Core.Bool.{_||_};
 ghost use lib.Dec.{eqb};
@@ -9,31 +10,15 @@ ghost use Rattle.step.specs.Word.{usesTarget, goodWordFields, badWord};
 ghost use Rattle.step.specs.Represents.{isControl};
 ghost use Rattle.step.specs.Step.{targetBeyond, ninthCounter, noCounter, logFull, wordFault};
 
-pub const WRITE: u32 = 1;
-
-pub const READ: u32 = 2;
-
-pub const DELAY: u32 = 3;
-
-pub const ENTER: u32 = 4;
-
-pub const LOOP_END: u32 = 5;
-
-pub const TEST: u32 = 6;
-
-pub const JUMP: u32 = 7;
-
-pub const HALT: u32 = 8;
-
 // ---- bad words: fault 20
 
 fn uses_target(r: Record) -> bool
     ensures { λ b. ⌜ b ≡ usesTarget r ⌝ }
 {
-    if r.kind < ENTER {
+    if r.kind < word_kind::ENTER {
         return false;
     }
-    r.kind <= JUMP
+    r.kind <= word_kind::JUMP
 }
 
 fn good_target(r: Record) -> bool
@@ -51,7 +36,7 @@ fn good_fields(r: Record) -> bool
     if !good_target(r) {
         return false;
     }
-    script::kind_fields(r, TEST)
+    script::kind_fields(r, word_kind::TEST)
 }
 
 fn bad(r: Record) -> bool
@@ -60,10 +45,10 @@ fn bad(r: Record) -> bool
     if r.mark != Record::WORD_MARK {
         return true;
     }
-    if r.kind < WRITE {
+    if r.kind < word_kind::WRITE {
         return true;
     }
-    if HALT < r.kind {
+    if word_kind::HALT < r.kind {
         return true;
     }
     if good_fields(r) {
@@ -87,7 +72,7 @@ fn target_beyond(words: u32, r: Record) -> bool
 fn ninth_counter(used: usize, r: Record) -> bool
     ensures { λ b. ⌜ b ≡ ninthCounter used r ⌝ }
 {
-    if r.kind != ENTER {
+    if r.kind != word_kind::ENTER {
         return false;
     }
     if r.value == 0 {
@@ -99,7 +84,7 @@ fn ninth_counter(used: usize, r: Record) -> bool
 fn no_counter(used: usize, r: Record) -> bool
     ensures { λ b. ⌜ b ≡ noCounter used r ⌝ }
 {
-    if r.kind != LOOP_END {
+    if r.kind != word_kind::LOOP_END {
         return false;
     }
     used == 0
@@ -108,7 +93,7 @@ fn no_counter(used: usize, r: Record) -> bool
 fn log_full(room: usize, logged: usize, r: Record) -> bool
     ensures { λ b. ⌜ b ≡ logFull room logged r ⌝ }
 {
-    if r.kind != READ {
+    if r.kind != word_kind::READ {
         return false;
     }
     room <= logged
@@ -140,11 +125,11 @@ pub fn fault(words: u32, room: usize, used: usize, logged: usize, r: Record) -> 
 pub fn is_control(r: Record) -> bool
     ensures { λ b. ⌜ b ≡ isControl r ⌝ }
 {
-    if r.kind == ENTER {
+    if r.kind == word_kind::ENTER {
         return true;
     }
-    if r.kind == LOOP_END {
+    if r.kind == word_kind::LOOP_END {
         return true;
     }
-    r.kind == JUMP
+    r.kind == word_kind::JUMP
 }

@@ -69,9 +69,11 @@ fn put_result(text: &mut [u8], result: RunResult, log: &[u32]) -> usize
     put_end(text, result.outcome, result.steps, at)
 }
 
-// The buffer has room for 1,024 lines of 14 bytes and the last line.
+// Room for 1,024 lines of 14 bytes and the last line.
+const TEXT_SIZE: usize = 14400;
+
 pub fn print(result: RunResult, log: &[u32]) {
-    let mut text = [0u8; 14400];
+    let mut text = [0u8; TEXT_SIZE];
     let end = put_result(&mut text, result, log);
     write(&text, end);
 }

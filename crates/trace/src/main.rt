@@ -7,18 +7,24 @@ use libc::STDIN_FILENO;
 
 const BUDGET: u32 = 100_000;
 
-// The log has room for 1,024 values. There are no events.
+// The log has room for this many values.
+const LOG_SIZE: usize = 1024;
+
+// The size of the script buffer: one record more than a script may have, so 12 times 1,025 bytes.
+const SCRIPT_SIZE: usize = 12300;
+
+// There are no events.
 fn trace(script: &[u8]) {
-    let mut log = [0u32; 1024];
+    let mut log = [0u32; LOG_SIZE];
     let events = [0u32; 0];
     let device = Device::fresh();
     let result = correct::compile_and_run(script, device, &events, BUDGET, &mut log);
     answer::print(result, &log);
 }
 
-// The buffer has room for one record more than a script may have. Longer input is cut off there, and is still refused with 1.
+// Longer input than the buffer is cut off there, and is still refused with 1.
 fn main() {
-    let mut script = [0u8; 12300];
+    let mut script = [0u8; SCRIPT_SIZE];
     let count = io::read_full(STDIN_FILENO, &mut script);
     trace(&script[..count]);
 }

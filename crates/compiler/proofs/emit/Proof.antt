@@ -38,8 +38,8 @@ add-next c = omega arith
 emits-word-requires : tie.Need-emits-word-requires Inv-loop μ-loop
 emits-word-requires c κs = search needs
 
-word-kind-requires : tie.Need-word-kind-requires Inv-loop μ-loop
-word-kind-requires c κs = search needs
+word-kind-for-requires : tie.Need-word-kind-for-requires Inv-loop μ-loop
+word-kind-for-requires c κs = search needs
 
 word-requires : tie.Need-word-requires Inv-loop μ-loop
 word-requires c κs = search needs
@@ -57,7 +57,7 @@ loop-again : tie.Need-loop-again Inv-loop μ-loop
 loop-again c =
     goes-on (c .before .before .before .before .before .before .before .before .before .before .loop .inv) (c .before .before .before .before .before .before .before .before .before .loop-test .taken) (c .before .before .before .before .before .before .before .before .read .ensures)
     (sym (c .before .before .before .before .before .before .before .emits-word .ensures) ∙ c .before .before .before .before .before .before .if1 .taken)
-    (rw (c .before .before .before .before .before .word-kind .ensures) at (c .before .before .before .word .ensures)) (c .before .before .put .ensures) (c .before .before .put .kept .0)
+    (rw (c .before .before .before .before .before .word-kind-for .ensures) at (c .before .before .before .word .ensures)) (c .before .before .put .ensures) (c .before .before .put .kept .0)
 
 loop-less-2 : tie.Need-loop-less-2 Inv-loop μ-loop
 loop-less-2 c = omega arith
@@ -94,7 +94,7 @@ emit-spec =
     array-read-target
     add-next
     emits-word-requires
-    word-kind-requires
+    word-kind-for-requires
     word-requires
     put-requires
     add-place

@@ -1,4 +1,4 @@
--- `run_script` returns `wholeAnswer` and leaves `wholeLog` in the log: one case for a refusal by the compiler, one for the
+-- `run_script` returns `compileAndRunResult` and leaves `compileAndRunLog` in the log: one case for a refusal by the compiler, one for the
 -- run (OneCall.antt).
 use native.Mathlib.Omega.{arith}
 use Rattle.compiler.specs.declared.CompileResult.{CompileResult}

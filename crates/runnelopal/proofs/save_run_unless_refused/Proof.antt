@@ -18,7 +18,7 @@ returns : tie.Need-returns
 returns c =
     let r = c .before .before .before .before .before .is-refusal in
     let e = sym (r .ensures) ∙ not-true (r .result) (c .before .before .before .before .if1 .taken) in
-    c .before .before .save .ensures ∙ rw e
+    c .before .before .save .ensures .1 ∙ rw e
 
 returns-2 : tie.Need-returns-2
 returns-2 c =

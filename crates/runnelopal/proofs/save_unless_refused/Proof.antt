@@ -11,7 +11,7 @@ same-length : tie.Need-same-length
 same-length c = search needs
 
 returns : tie.Need-returns
-returns c = simp (eq-eqb _ _ (c .before .before .before .before .if1 .taken), c .before .before .save .ensures)
+returns c = simp (eq-eqb _ _ (c .before .before .before .before .if1 .taken), c .before .before .save .ensures .1)
 
 returns-2 : tie.Need-returns-2
 returns-2 c = simp (ne-eqb _ _ (c .if1 .left))

@@ -25,8 +25,8 @@ use Rattle.script.proofs.Scanning.{
   scan-unended,
   shape-first,
   starts,
-  walk-within,
-  walks,
+  search-within,
+  searched-if-repeat,
 }
 use Rattle.script.specs.Records.{recordsFrom}
 use Rattle.script.specs.Refusals.{firstFault, emitsWord, recordFault, repeatsIn}
@@ -36,11 +36,11 @@ use Rattle.script.proofs.scan_records.Statement.{statement}
 use Rattle.script.proofs.scan_records.Tie as tie
 
 abbrev Inv-loop : tie.InvT-loop
-Inv-loop script count blocks depth words number₀ k kind walk repeats₀ b₀ number repeats b =
-    (b ≤ walk) × (repeats ≡ repeatsIn (stackOf b blocks)) × (repeats < 8) × (number ≡ 0)
+Inv-loop script count blocks depth words number₀ k kind searched repeats₀ b₀ number repeats b =
+    (b ≤ searched) × (repeats ≡ repeatsIn (stackOf b blocks)) × (repeats < 8) × (number ≡ 0)
 
 abbrev μ-loop : tie.MeasureT-loop
-μ-loop script count blocks depth words number₀ k kind walk repeats₀ b₀ number repeats b = walk - b
+μ-loop script count blocks depth words number₀ k kind searched repeats₀ b₀ number repeats b = searched - b
 
 abbrev Inv-scan : tie.InvT-scan
 Inv-scan script count blocks₀ depth₀ words₀ number₀ k₀ blocks depth words number k = ScanInvariant script count blocks depth words number k
@@ -74,8 +74,8 @@ settled c =
     ⊎-elim (λ w. (sym (w .2 .ensures) ∙ w .3 .left, w .4 ∙ w .3 .left))
     (λ w. (anywhere _ _ (w .0 .left), w .1 ∙ c .before .if1 .left)) (c .if2 .came)
 
-walk-requires : tie.Need-walk-requires Inv-loop μ-loop Inv-scan μ-scan
-walk-requires c κs = search needs
+blocks-to-search-requires : tie.Need-blocks-to-search-requires Inv-loop μ-loop Inv-scan μ-scan
+blocks-to-search-requires c κs = search needs
 
 loop-holds : tie.Need-loop-holds Inv-loop μ-loop Inv-scan μ-scan
 loop-holds c = (omega arith, refl, omega arith, settled (c .before) .1)
@@ -86,8 +86,8 @@ array-read-is-repeat c =
     let s = j .before .before .before .before .before .scan in
     omega (
       arith,
-      c .before .before .walk .ensures,
-      walk-within (eqb (j .before .before .before .read .result .kind) 4) (s .depth),
+      c .before .before .blocks-to-search .ensures,
+      search-within (eqb (j .before .before .before .read .result .kind) 4) (s .depth),
       s .inv .kept .deep,
     )
 
@@ -122,7 +122,7 @@ sound : (c : tie.After-loop Inv-loop μ-loop Inv-scan μ-scan)
     → recordFault (openAt (c .before .before .before .before .before .before)) (c .before .before .before .before .before .before .read .result) ≡ 0
 sound c =
     let l = c .before .loop in
-    let w = c .before .before .walk in
+    let w = c .before .before .blocks-to-search in
     let j = c .before .before .before in
     let s = j .before .before .before .before .before .scan in
     let f = j .before .before in
@@ -198,10 +198,10 @@ closedByEnd c =
     let r = w .1 .result in
     let e = sym (w .2 .ensures) ∙ w .3 .left in
     let b = w .6 .b in
-    let four = walks (r .kind) (s .depth) b (rw (w .5 .ensures) at (w .7 .taken)) in
+    let four = searched-if-repeat (r .kind) (s .depth) b (rw (w .5 .ensures) at (w .7 .taken)) in
     let eight : repeatsIn (stackOf (b + 1) (s .blocks)) ≡ 8 =
     repeats-more b (s .blocks) ∙ (rw (← (w .6 .inv .1), ← (w .8 .ensures)) (w .9 .taken)) in
-    let l : b + 1 ≤ s .depth = omega (arith, w .7 .taken, w .5 .ensures, walk-within (eqb (r .kind) 4) (s .depth)) in
+    let l : b + 1 ≤ s .depth = omega (arith, w .7 .taken, w .5 .ensures, search-within (eqb (r .kind) 4) (s .depth)) in
     let f = faulty _ _ _ _ _ _ _ g r 6 (w .0 .taken) (w .1 .ensures) (ninth-repeat (s .blocks) (s .depth) (b + 1) r e four l eight) (λ q. omega arith) in
     inr (rw (w .10) (f, λ q. omega arith)))))
     (c .scan-test .came)
@@ -251,7 +251,7 @@ scan-records-spec =
     read-requires
     shape-fault-requires
     place-fault-requires
-    walk-requires
+    blocks-to-search-requires
     loop-holds
     array-read-is-repeat
     is-repeat-requires

@@ -19,17 +19,18 @@ use Rattle.step.specs.Sequencer.{countersOf, counterArray}
 use Rattle.step.specs.Step.{wordFault}
 use Rattle.step.specs.Word.{imageWords}
 use Rattle.step.specs.declared.Sequencer.{Sequencer}
+use Rattle.record.specs.Record.{mostRecords}
 use Rattle.record.specs.declared.Record.{Record}
 use Rattle.semantics.specs.World.{afterNextEvent}
 use Rattle.sequencer.specs.Ends.{Starts}
 use Rattle.sequencer.specs.Run.{imageRun}
 use Rattle.sequencer.proofs.LoopInvariant.{
   LoopInvariant,
-  Looked,
+  Fetch,
   faulted,
   further,
   halted,
-  looked,
+  fetched,
   place-beyond,
   spent,
   starts,
@@ -38,13 +39,13 @@ use Rattle.sequencer.proofs.run_words.Statement.{statement}
 use Rattle.sequencer.proofs.run_words.Tie as tie
 
 abbrev Inv-loop : tie.InvT-loop
-Inv-loop image events budget log₀ words last₀ x₀ counters₀ steps₀ log last x counters steps =
-    (s : Sequencer) → Starts s x₀ → counters₀ ≡ counterArray (countersOf s)
+Inv-loop image events budget log₀ words last₀ position₀ counters₀ steps₀ log last position counters steps =
+    (s : Sequencer) → Starts s position₀ → counters₀ ≡ counterArray (countersOf s)
     → LoopInvariant image (imageRun image (last₀ .device) s events budget (length log₀)) events log₀ budget log
-    (runState (last .device) x counters) steps
+    (runState (last .device) position counters) steps
 
 abbrev μ-loop : tie.MeasureT-loop
-μ-loop image events budget log₀ words last₀ x₀ counters₀ steps₀ log last x counters steps = budget - steps
+μ-loop image events budget log₀ words last₀ position₀ counters₀ steps₀ log last position counters steps = budget - steps
 
 -- ---- the points of the code that the facts below are about: the start, the head of the loop, the word read there with its fault,
 -- and that word if it neither faults nor halts. Each contains the one before it.
@@ -54,8 +55,8 @@ Start = tie.Start Inv-loop μ-loop
 abbrev Head : Type 0
 Head = tie.At-loop Inv-loop μ-loop
 
-abbrev Fetched : Type 0
-Fetched = tie.After-fault Inv-loop μ-loop
+abbrev AfterFetch : Type 0
+AfterFetch = tie.After-fault Inv-loop μ-loop
 
 abbrev Executes : Type 0
 Executes = tie.Else3 Inv-loop μ-loop
@@ -63,14 +64,14 @@ Executes = tie.Else3 Inv-loop μ-loop
 abbrev start-of : Head → Start
 start-of l = l .before .before .before .before .before .before .before
 
-abbrev head-of : Fetched → Head
+abbrev head-of : AfterFetch → Head
 head-of f = f .before .before .before .before .before .before
 
-abbrev fetch-of : Executes → Fetched
+abbrev fetch-of : Executes → AfterFetch
 fetch-of w = w .before .before .before
 
 abbrev state : Head → RunState
-state l = runState (l .loop .last .device) (l .loop .x) (l .loop .counters)
+state l = runState (l .loop .last .device) (l .loop .position) (l .loop .counters)
 
 -- ---- what holds at the head of the loop
 abbrev Invariant : Head → Sequencer → List ℕ → RunState → ℕ → Type 0
@@ -83,30 +84,30 @@ invariant : (l : Head) → Invariant l (start-of l .args .sequencer) (l .loop .l
 invariant l = l .loop .inv (start-of l .args .sequencer) (l .before .before .start .ensures) (l .before .counters-of .ensures)
 
 -- ---- what holds for the word that is read there
-abbrev word : Fetched → Record
+abbrev word : AfterFetch → Record
 word f = f .before .read .result
 
-place-small : (f : Fetched) → head-of f .loop .x .place < 4096
+place-small : (f : AfterFetch) → head-of f .loop .position .place < mostRecords
 place-small f = omega (arith, f .before .before .before .if1 .left, start-of (head-of f) .pre .0)
 
-in-budget : (f : Fetched) → head-of f .loop .steps < start-of (head-of f) .args .budget
+in-budget : (f : AfterFetch) → head-of f .loop .steps < start-of (head-of f) .args .budget
 in-budget f = f .before .before .before .before .before .loop-test .taken
 
-countable : (f : Fetched) → head-of f .loop .steps < 4294967295
+countable : (f : AfterFetch) → head-of f .loop .steps < 4294967295
 countable f = omega (arith, in-budget f, start-of (head-of f) .fits .budget)
 
-word-looked : (f : Fetched)
-    → Looked (start-of (head-of f) .args .image .now) (head-of f .loop .log) (state (head-of f)) (word f) (f .fault .result)
-word-looked f =
-    looked (f .before .before .before .if1 .left) (f .before .read .ensures) (f .before .before .index .ensures) (f .fault .ensures)
+word-fetched : (f : AfterFetch)
+    → Fetch (start-of (head-of f) .args .image .now) (head-of f .loop .log) (state (head-of f)) (word f) (f .fault .result)
+word-fetched f =
+    fetched (f .before .before .before .if1 .left) (f .before .read .ensures) (f .before .before .index .ensures) (f .fault .ensures)
 
 -- ---- what holds for a word that neither faults nor halts
 abbrev executed-at : Executes → Head
 executed-at w = head-of (fetch-of w)
 
 faultless : (w : Executes)
-    → wordFault (imageWords (start-of (executed-at w) .args .image .now)) (length (executed-at w .loop .log)) (executed-at w .loop .x .used)
-    (executed-at w .loop .x .logged) (word (fetch-of w)) ≡ 0
+    → wordFault (imageWords (start-of (executed-at w) .args .image .now)) (length (executed-at w .loop .log)) (executed-at w .loop .position .used)
+    (executed-at w .loop .position .logged) (word (fetch-of w)) ≡ 0
 faultless w = sym (fetch-of w .fault .ensures) ∙ w .before .before .if2 .left
 
 -- executing the word keeps the invariant
@@ -117,11 +118,11 @@ next-word : (w : Executes) {y : RunState} {log : List ℕ}
     → Invariant (executed-at w) s log y (executed-at w .loop .steps + 1)
 next-word w does same s h q =
     let f = fetch-of w in
-    further _ _ (head-of f .loop .inv s h q) (in-budget f) (word-looked f) (w .before .before .if2 .left) (w .if3 .left) does same
+    further _ _ (head-of f .loop .inv s h q) (in-budget f) (word-fetched f) (w .before .before .if2 .left) (w .if3 .left) does same
 
 -- ---- the three groups of words: control words, delays, accesses
-abbrev turn-of : tie.Then4 Inv-loop μ-loop → Executes
-turn-of t = t .before .before
+abbrev control-of : tie.Then4 Inv-loop μ-loop → Executes
+control-of t = t .before .before
 
 abbrev delay-of : tie.Then5 Inv-loop μ-loop → Executes
 delay-of t = t .before .before .before .before
@@ -179,7 +180,7 @@ same-length-2 c = invariant (head-of (c .before .before)) .same
 returns-2 : tie.Need-returns-2 Inv-loop μ-loop
 returns-2 c =
     let f = c .before .before in
-    faulted _ (invariant (head-of f)) (in-budget f) (word-looked f) (c .before .if2 .taken) (c .run-result2 .ensures)
+    faulted _ (invariant (head-of f)) (in-budget f) (word-fetched f) (c .before .if2 .taken) (c .run-result2 .ensures)
 
 -- ---- it halts
 add-run-result : tie.Need-add-run-result Inv-loop μ-loop
@@ -194,7 +195,7 @@ same-length-3 c = invariant (head-of (c .before .before .before .before)) .same
 returns-3 : tie.Need-returns-3 Inv-loop μ-loop
 returns-3 c =
     let f = c .before .before .before .before in
-    halted _ (invariant (head-of f)) (in-budget f) (word-looked f) (c .before .before .before .if2 .left) (c .before .if3 .taken)
+    halted _ (invariant (head-of f)) (in-budget f) (word-fetched f) (c .before .before .before .if2 .left) (c .before .if3 .taken)
     (c .run-result3 .ensures)
 
 -- ---- it is a control word
@@ -203,33 +204,33 @@ is-control-requires c κs = search needs
 
 execute-control-requires : tie.Need-execute-control-requires Inv-loop μ-loop
 execute-control-requires c κs =
-    let w = turn-of (c .before) in
-    let x = executed-at w .loop .x in
+    let w = control-of (c .before) in
+    let position = executed-at w .loop .position in
     let g = invariant (executed-at w) .holds in
     let t = sym (c .before .before .is-control .ensures) ∙ c .before .if4 .taken in
-    (place-small (fetch-of w), control-ready _ _ x (word (fetch-of w)) (faultless w) (omega (arith, g .used, g .few)) t)
+    (place-small (fetch-of w), control-ready _ _ position (word (fetch-of w)) (faultless w) (omega (arith, g .used, g .few)) t)
 
 count-step-requires : tie.Need-count-step-requires Inv-loop μ-loop
-count-step-requires c κs = countable (fetch-of (turn-of (c .before .before)))
+count-step-requires c κs = countable (fetch-of (control-of (c .before .before)))
 
 loop-less : tie.Need-loop-less Inv-loop μ-loop
-loop-less c = omega (arith, c .count-step .ensures, in-budget (fetch-of (turn-of (c .before .before .before))))
+loop-less c = omega (arith, c .count-step .ensures, in-budget (fetch-of (control-of (c .before .before .before))))
 
 loop-again : tie.Need-loop-again Inv-loop μ-loop
 loop-again c = λ s h q.
-    rw (c .count-step .ensures) (next-word (turn-of (c .before .before .before)) (c .before .execute-control .ensures _ _ _) refl s h q)
+    rw (c .count-step .ensures) (next-word (control-of (c .before .before .before)) (c .before .execute-control .ensures _ _ _) refl s h q)
 
 -- ---- it is a delay
 tick-event-requires : tie.Need-tick-event-requires Inv-loop μ-loop
 tick-event-requires c κs =
     let w = delay-of c in
-    delay-ready _ _ (executed-at w .loop .x) (word (fetch-of w)) (faultless w) (c .if5 .taken)
+    delay-ready _ _ (executed-at w .loop .position) (word (fetch-of w)) (faultless w) (c .if5 .taken)
 
 apply-event-requires : tie.Need-apply-event-requires Inv-loop μ-loop
 apply-event-requires c κs = search needs
 
-add-x : tie.Need-add-x Inv-loop μ-loop
-add-x c = let p = place-small (fetch-of (delay-of (c .before .before .before))) in omega (arith, p)
+add-position : tie.Need-add-position Inv-loop μ-loop
+add-position c = let p = place-small (fetch-of (delay-of (c .before .before .before))) in omega (arith, p)
 
 count-step-requires-2 : tie.Need-count-step-requires-2 Inv-loop μ-loop
 count-step-requires-2 c κs = countable (fetch-of (delay-of (c .before .before .before)))
@@ -260,7 +261,7 @@ apply-event-requires-2 c κs = search needs
 arrived :
     (j : tie.Joined6 Inv-loop μ-loop)
     → let l = executed-at (access-of (j .before)) in
-    j .if6 .last .device ≡ afterNextEvent (l .loop .last .device) (drop (l .loop .x .taken) (start-of l .args .events .now))
+    j .if6 .last .device ≡ afterNextEvent (l .loop .last .device) (drop (l .loop .position .taken) (start-of l .args .events .now))
 arrived j =
     ⊎-elim
     (λ (test, element, event, next). ap (λ (r : AccessResult). r .device) next ∙ event .ensures ∙ sym (next-there _ _ _ (test .taken)))
@@ -279,7 +280,7 @@ apply-answer-requires c κs =
     let w = access-of t in
     let l = executed-at w in
     let isControl = sym (t .before .before .before .is-control .ensures) ∙ t .before .before .if4 .left in
-    (place-small (fetch-of w), invariant l .holds .inside, access-ready _ (l .loop .x) (word (fetch-of w)) (l .loop .log) (faultless w) isControl (w .if3 .left) (t .if5 .left))
+    (place-small (fetch-of w), invariant l .holds .inside, access-ready _ (l .loop .position) (word (fetch-of w)) (l .loop .log) (faultless w) isControl (w .if3 .left) (t .if5 .left))
 
 count-step-requires-3 : tie.Need-count-step-requires-3 Inv-loop μ-loop
 count-step-requires-3 c κs = countable (fetch-of (access-of (c .before .before .before .before .before .before .before)))
@@ -338,7 +339,7 @@ run-words-spec =
     loop-again
     tick-event-requires
     apply-event-requires
-    add-x
+    add-position
     count-step-requires-2
     loop-less-2
     loop-again-2

@@ -2,14 +2,14 @@
 // `runnelopal` and `replay` call them. See docs/CHIP.md, "Single calls".
 use access::Access;
 ghost use mathlib.Core.Path.{_≡_};
-ghost use Rattle.device.specs.Lone.{isAccess, accessRefused, accessDone, loneAccess, eventRefused, eventDone, loneEvent, noOutputs};
+ghost use Rattle.device.specs.Single.{isAccess, accessRefused, accessDone, singleAccess, eventRefused, eventDone, singleEvent, noOutputs};
 use crate::AccessResult;
 use crate::Device;
 use crate::Outputs;
 
 // The answer to a single access. `refusal` is 0 if the access was made. Otherwise it is the number
 // of the refusal, and all other numbers are 0.
-pub struct LoneAccess {
+pub struct SingleAccess {
     pub device: Device,
     pub refusal: u32,
     pub place: u32,
@@ -19,7 +19,7 @@ pub struct LoneAccess {
 }
 
 // The answer to a single event, in the same form.
-pub struct LoneEvent {
+pub struct SingleEvent {
     pub device: Device,
     pub refusal: u32,
     pub place: u32,
@@ -52,11 +52,11 @@ fn no_outputs() -> Outputs
     }
 }
 
-pub fn access_refused(number: u32, device: Device) -> LoneAccess
+pub fn access_refused(number: u32, device: Device) -> SingleAccess
     ensures { λ r. ⌜ r ≡ accessRefused number device ⌝ }
 {
     let outputs = no_outputs();
-    LoneAccess {
+    SingleAccess {
         refusal: number,
         place: 0,
         status: 0,
@@ -66,13 +66,13 @@ pub fn access_refused(number: u32, device: Device) -> LoneAccess
     }
 }
 
-fn access_done(result: AccessResult) -> LoneAccess
+fn access_done(result: AccessResult) -> SingleAccess
     ensures { λ r. ⌜ r ≡ accessDone result ⌝ }
 {
     let answer = result.answer;
     let device = result.device;
     let outputs = device.outputs();
-    LoneAccess {
+    SingleAccess {
         refusal: 0,
         place: 0,
         status: answer.status,
@@ -82,11 +82,11 @@ fn access_done(result: AccessResult) -> LoneAccess
     }
 }
 
-pub fn event_refused(number: u32, device: Device) -> LoneEvent
+pub fn event_refused(number: u32, device: Device) -> SingleEvent
     ensures { λ r. ⌜ r ≡ eventRefused number device ⌝ }
 {
     let outputs = no_outputs();
-    LoneEvent {
+    SingleEvent {
         refusal: number,
         place: 0,
         outputs,
@@ -94,11 +94,11 @@ pub fn event_refused(number: u32, device: Device) -> LoneEvent
     }
 }
 
-fn event_done(device: Device) -> LoneEvent
+fn event_done(device: Device) -> SingleEvent
     ensures { λ r. ⌜ r ≡ eventDone device ⌝ }
 {
     let outputs = device.outputs();
-    LoneEvent {
+    SingleEvent {
         refusal: 0,
         place: 0,
         outputs,
@@ -107,8 +107,8 @@ fn event_done(device: Device) -> LoneEvent
 }
 
 impl Device {
-    pub fn lone_access(self, access: Access) -> LoneAccess
-        ensures { λ r. ⌜ r ≡ loneAccess self access ⌝ }
+    pub fn single_access(self, access: Access) -> SingleAccess
+        ensures { λ r. ⌜ r ≡ singleAccess self access ⌝ }
     {
         if !self.in_range() {
             return access_refused(outcome::BAD_STATE, self);
@@ -119,8 +119,8 @@ impl Device {
         access_done(self.access(access))
     }
 
-    pub fn lone_event(self, number: u32) -> LoneEvent
-        ensures { λ r. ⌜ r ≡ loneEvent self number ⌝ }
+    pub fn single_event(self, number: u32) -> SingleEvent
+        ensures { λ r. ⌜ r ≡ singleEvent self number ⌝ }
     {
         if !self.in_range() {
             return event_refused(outcome::BAD_STATE, self);

@@ -1,7 +1,7 @@
 -- `event_done` returns `eventDone`: the outputs are those of the new device.
 use borrow.Author.Needs.{needs}
-use Rattle.device.proofs.lone.event_done.Statement.{statement}
-use Rattle.device.proofs.lone.event_done.Tie as tie
+use Rattle.device.proofs.single.event_done.Statement.{statement}
+use Rattle.device.proofs.single.event_done.Tie as tie
 
 outputs-requires : tie.Need-outputs-requires
 outputs-requires c κs = search needs

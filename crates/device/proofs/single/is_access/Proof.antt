@@ -1,8 +1,8 @@
 -- `is_access` returns `isAccess`: the same tests in the same order.
 use borrow.Author.Tests.{le-leb, le-ltb, lt-leb, lt-ltb, not-false, not-true}
 use borrow.Author.Needs.{needs}
-use Rattle.device.proofs.lone.is_access.Statement.{statement}
-use Rattle.device.proofs.lone.is_access.Tie as tie
+use Rattle.device.proofs.single.is_access.Statement.{statement}
+use Rattle.device.proofs.single.is_access.Tie as tie
 
 is-width-requires : tie.Need-is-width-requires
 is-width-requires c κs = search needs

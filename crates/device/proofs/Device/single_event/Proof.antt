@@ -1,9 +1,9 @@
--- `Device::lone_event` returns `loneEvent`: it checks for refusals 11 and 12 in this order and then applies the event.
+-- `Device::single_event` returns `singleEvent`: it checks for refusals 11 and 12 in this order and then applies the event.
 use borrow.Author.Tests.{not-false, not-true}
-use Rattle.device.specs.Lone.{loneEvent}
+use Rattle.device.specs.Single.{singleEvent}
 use borrow.Author.Needs.{needs}
-use Rattle.device.proofs.Device.lone_event.Statement.{statement}
-use Rattle.device.proofs.Device.lone_event.Tie as tie
+use Rattle.device.proofs.Device.single_event.Statement.{statement}
+use Rattle.device.proofs.Device.single_event.Tie as tie
 
 in-range-requires : tie.Need-in-range-requires
 in-range-requires c κs = search needs
@@ -12,7 +12,7 @@ event-refused-requires : tie.Need-event-refused-requires
 event-refused-requires c κs = search needs
 
 returns : tie.Need-returns
-unfolding loneEvent
+unfolding singleEvent
 returns c = simp (
   ← (c .before .before .in-range .ensures),
   not-true (c .before .before .in-range .result) (c .before .if1 .taken),
@@ -26,7 +26,7 @@ event-refused-requires-2 : tie.Need-event-refused-requires-2
 event-refused-requires-2 c κs = search needs
 
 returns-2 : tie.Need-returns-2
-unfolding loneEvent
+unfolding singleEvent
 returns-2 c = simp (
   ← (c .before .before .before .before .in-range .ensures),
   not-false (c .before .before .before .before .in-range .result) (c .before .before .before .if1 .left),
@@ -42,7 +42,7 @@ event-done-requires : tie.Need-event-done-requires
 event-done-requires c κs = search needs
 
 returns-3 : tie.Need-returns-3
-unfolding loneEvent
+unfolding singleEvent
 returns-3 c = simp (
   ← (c .before .before .before .before .before .in-range .ensures),
   not-false (c .before .before .before .before .before .in-range .result) (c .before .before .before .before .if1 .left),
@@ -52,8 +52,8 @@ returns-3 c = simp (
   c .event-done .ensures,
 )
 
-pub lone-event-spec : {M : Type 1} → statement M
-lone-event-spec =
+pub single-event-spec : {M : Type 1} → statement M
+single-event-spec =
     tie.close
     (tie.spec
     in-range-requires

@@ -13,8 +13,8 @@ use Rattle.device.specs.declared.Device.{Device}
 use Rattle.outcome.specs.Number as number
 use Rattle.device.specs.declared.Outputs.{Outputs}
 use Rattle.device.specs.declared.AccessResult.{AccessResult}
-use Rattle.device.specs.declared.lone.LoneAccess.{LoneAccess}
-use Rattle.device.specs.declared.lone.LoneEvent.{LoneEvent}
+use Rattle.device.specs.declared.single.SingleAccess.{SingleAccess}
+use Rattle.device.specs.declared.single.SingleEvent.{SingleEvent}
 
 -- an access that is not refused with 4; the value of a read is not checked
 abbrev pub isAccess : Access → Bool
@@ -23,10 +23,10 @@ isAccess x = isWidth (x .width) && (leb (x .port) 0xFFFF && cond (x .write) (fit
 abbrev pub noOutputs : Outputs
 noOutputs = record { sci = false; smi = false; monitor = false }
 
-abbrev pub accessRefused : ℕ → Device → LoneAccess
+abbrev pub accessRefused : ℕ → Device → SingleAccess
 accessRefused n d = record { refusal = n; place = 0; status = 0; value = 0; outputs = noOutputs; device = d }
 
-abbrev pub accessDone : AccessResult → LoneAccess
+abbrev pub accessDone : AccessResult → SingleAccess
 accessDone r = record {
   refusal = 0;
   place = 0;
@@ -36,16 +36,16 @@ accessDone r = record {
   device = r .device;
 }
 
-unfoldable pub loneAccess : Device → Access → LoneAccess
-loneAccess d x =
+unfoldable pub singleAccess : Device → Access → SingleAccess
+singleAccess d x =
     cond (deviceInRange d) (cond (isAccess x) (accessDone (deviceAccess d x)) (accessRefused number.badField d)) (accessRefused number.badState d)
 
-abbrev pub eventRefused : ℕ → Device → LoneEvent
+abbrev pub eventRefused : ℕ → Device → SingleEvent
 eventRefused n d = record { refusal = n; place = 0; outputs = noOutputs; device = d }
 
-abbrev pub eventDone : Device → LoneEvent
+abbrev pub eventDone : Device → SingleEvent
 eventDone d = record { refusal = 0; place = 0; outputs = outputsOf d; device = d }
 
-unfoldable pub loneEvent : Device → ℕ → LoneEvent
-loneEvent d n =
+unfoldable pub singleEvent : Device → ℕ → SingleEvent
+singleEvent d n =
     cond (deviceInRange d) (cond (isEvent n) (eventDone (applyEvent d n)) (eventRefused number.badEvent d)) (eventRefused number.badState d)

@@ -1,7 +1,7 @@
 -- `event_refused` returns `eventRefused`: all outputs are off.
 use borrow.Author.Needs.{needs}
-use Rattle.device.proofs.lone.event_refused.Statement.{statement}
-use Rattle.device.proofs.lone.event_refused.Tie as tie
+use Rattle.device.proofs.single.event_refused.Statement.{statement}
+use Rattle.device.proofs.single.event_refused.Tie as tie
 
 no-outputs-requires : tie.Need-no-outputs-requires
 no-outputs-requires c κs = search needs

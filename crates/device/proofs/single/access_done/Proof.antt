@@ -1,7 +1,7 @@
 -- `access_done` returns `accessDone`: the outputs are those of the new device.
 use borrow.Author.Needs.{needs}
-use Rattle.device.proofs.lone.access_done.Statement.{statement}
-use Rattle.device.proofs.lone.access_done.Tie as tie
+use Rattle.device.proofs.single.access_done.Statement.{statement}
+use Rattle.device.proofs.single.access_done.Tie as tie
 
 outputs-requires : tie.Need-outputs-requires
 outputs-requires c κs = search needs

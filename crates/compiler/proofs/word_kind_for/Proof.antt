@@ -1,7 +1,7 @@
--- `word_kind` is `wordKind`: the same cases in the same order.
+-- `word_kind_for` is `wordKindFor`: the same cases in the same order.
 use borrow.Author.Tests.{ne-eqb}
-use Rattle.compiler.proofs.word_kind.Statement.{statement}
-use Rattle.compiler.proofs.word_kind.Tie as tie
+use Rattle.compiler.proofs.word_kind_for.Statement.{statement}
+use Rattle.compiler.proofs.word_kind_for.Tie as tie
 
 returns : tie.Need-returns
 returns c = rw (c .if1 .taken)
@@ -19,5 +19,5 @@ returns-4 c = simp (
   ne-eqb _ _ (c .if3 .left),
 )
 
-pub word-kind-spec : {M : Type 1} → statement M
-word-kind-spec = tie.close (tie.spec returns returns-2 returns-3 returns-4)
+pub word-kind-for-spec : {M : Type 1} → statement M
+word-kind-for-spec = tie.close (tie.spec returns returns-2 returns-3 returns-4)

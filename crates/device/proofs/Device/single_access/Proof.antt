@@ -1,9 +1,9 @@
--- `Device::lone_access` returns `loneAccess`: it checks for refusals 11 and 4 in this order and then makes the access.
+-- `Device::single_access` returns `singleAccess`: it checks for refusals 11 and 4 in this order and then makes the access.
 use borrow.Author.Tests.{not-false, not-true}
-use Rattle.device.specs.Lone.{loneAccess}
+use Rattle.device.specs.Single.{singleAccess}
 use borrow.Author.Needs.{needs}
-use Rattle.device.proofs.Device.lone_access.Statement.{statement}
-use Rattle.device.proofs.Device.lone_access.Tie as tie
+use Rattle.device.proofs.Device.single_access.Statement.{statement}
+use Rattle.device.proofs.Device.single_access.Tie as tie
 
 in-range-requires : tie.Need-in-range-requires
 in-range-requires c κs = search needs
@@ -12,7 +12,7 @@ access-refused-requires : tie.Need-access-refused-requires
 access-refused-requires c κs = search needs
 
 returns : tie.Need-returns
-unfolding loneAccess
+unfolding singleAccess
 returns c = simp (
   ← (c .before .before .in-range .ensures),
   not-true (c .before .before .in-range .result) (c .before .if1 .taken),
@@ -26,7 +26,7 @@ access-refused-requires-2 : tie.Need-access-refused-requires-2
 access-refused-requires-2 c κs = search needs
 
 returns-2 : tie.Need-returns-2
-unfolding loneAccess
+unfolding singleAccess
 returns-2 c = simp (
   ← (c .before .before .before .before .in-range .ensures),
   not-false (c .before .before .before .before .in-range .result) (c .before .before .before .if1 .left),
@@ -42,7 +42,7 @@ access-done-requires : tie.Need-access-done-requires
 access-done-requires c κs = search needs
 
 returns-3 : tie.Need-returns-3
-unfolding loneAccess
+unfolding singleAccess
 returns-3 c = simp (
   ← (c .before .before .before .before .before .in-range .ensures),
   not-false (c .before .before .before .before .before .in-range .result) (c .before .before .before .before .if1 .left),
@@ -52,8 +52,8 @@ returns-3 c = simp (
   c .access-done .ensures,
 )
 
-pub lone-access-spec : {M : Type 1} → statement M
-lone-access-spec =
+pub single-access-spec : {M : Type 1} → statement M
+single-access-spec =
     tie.close
     (tie.spec
     in-range-requires

@@ -1,7 +1,7 @@
 -- `access_refused` returns `accessRefused`: all outputs are off.
 use borrow.Author.Needs.{needs}
-use Rattle.device.proofs.lone.access_refused.Statement.{statement}
-use Rattle.device.proofs.lone.access_refused.Tie as tie
+use Rattle.device.proofs.single.access_refused.Statement.{statement}
+use Rattle.device.proofs.single.access_refused.Tie as tie
 
 no-outputs-requires : tie.Need-no-outputs-requires
 no-outputs-requires c κs = search needs
