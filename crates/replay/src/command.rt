@@ -6,6 +6,7 @@ use crate::scripts;
 use crate::session::Session;
 use access::Access;
 use device::Device;
+use state::LoadResult;
 
 fn access(device: Device, access: Access) -> Device {
     let r = device.single_access(access);
@@ -93,6 +94,10 @@ fn state_bytes(line: &[u8], bytes: &mut [u8; state::SIZE]) -> bool {
 // The length of a command `L`: two characters, and two digits for each byte.
 const LOAD_LINE: usize = 2 + 2 * state::SIZE;
 
+fn load_bytes(bytes: &[u8; state::SIZE]) -> LoadResult {
+    state::load(bytes)
+}
+
 // L bytes
 fn load(device: Device, line: &[u8]) -> Device {
     let mut bytes = [0u8; state::SIZE];
@@ -105,7 +110,7 @@ fn load(device: Device, line: &[u8]) -> Device {
     if !state_bytes(line, &mut bytes) {
         return unread(device);
     }
-    let loaded = state::load(&bytes);
+    let loaded = load_bytes(&bytes);
     let next = loaded.device;
     if loaded.refusal == 0 {
         answer::loaded();
