@@ -119,10 +119,11 @@ pub extern "C" fn runnelopal_run(
 // Saves the fresh device into `state`. Refuses a slice that does not have the length of a state, with 11.
 #[no_mangle]
 pub extern "C" fn runnelopal_fresh(state: &mut [u8]) -> u32
-    ensures { λ r. ⌜ (r ≡ saveRefusal (now (state .entry))) × (now (state .exit) ≡ saved freshDevice (now (state .entry))) ⌝ }
+    ensures { λ r. ⌜ (r ≡ saveRefusal (now (state .entry)) .number) × (now (state .exit) ≡ saved freshDevice (now (state .entry))) ⌝ }
 {
     let fresh = Device::fresh();
-    state::save(fresh, state)
+    let saved = state::save(fresh, state);
+    saved.number
 }
 
 fn put_access(answer: &mut [u64], r: SingleAccess)

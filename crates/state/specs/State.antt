@@ -15,6 +15,8 @@ use Rattle.key.specs.Saved.{keyBytes, keyFrom, keySize}
 use Rattle.lists.specs.Tests.{allHold}
 use Rattle.monitor.specs.Saved.{monitorBytes, monitorFrom, monitorSaved, monitorSize}
 use Rattle.outcome.specs.Number as number
+use Rattle.outcome.specs.Refusal.{refusal}
+use Rattle.outcome.specs.declared.Refusal.{Refusal}
 use Rattle.state.specs.declared.LoadResult.{LoadResult}
 
 -- ---- where each block's bytes start, and how many there are in all
@@ -59,8 +61,8 @@ isSaved bytes = allHold (savedTests bytes)
 unfoldable pub saved : Device → List ℕ → List ℕ
 saved d bytes = cond (eqb (length bytes) stateSize) (stateBytes d) bytes
 
-abbrev pub saveRefusal : List ℕ → ℕ
-saveRefusal bytes = cond (eqb (length bytes) stateSize) 0 number.badState
+abbrev pub saveRefusal : List ℕ → Refusal
+saveRefusal bytes = cond (eqb (length bytes) stateSize) (refusal 0 0) (refusal number.badState 0)
 
 -- ---- loading: bytes of another length, and bytes that no device can hold, are refused with 11 at place 0
 -- activate has the mask 01h, so this device is not in range, and every call refuses it

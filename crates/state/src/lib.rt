@@ -4,6 +4,7 @@ use config::Config;
 use device::Device;
 use key::Key;
 use monitor::Monitor;
+use outcome::Refusal;
 ghost use mathlib.Core.Path.{_≡_};
 ghost use Prim.Native.Nat.{_+_, _≤_};
 ghost use lib.ListN.{length};
@@ -119,15 +120,21 @@ fn not_loaded() -> LoadResult
     }
 }
 
-// Writes the state into a slice of `SIZE` bytes. A slice of any other length is unchanged, and refused with 11.
-pub fn save(device: Device, bytes: &mut [u8]) -> u32
+// Writes the state into a slice of `SIZE` bytes. A slice of any other length is unchanged, and refused with 11 at place 0.
+pub fn save(device: Device, bytes: &mut [u8]) -> Refusal
     ensures { λ r. ⌜ (r ≡ saveRefusal (now (bytes .entry))) × (now (bytes .exit) ≡ saved device (now (bytes .entry))) ⌝ }
 {
     if bytes.len() == SIZE {
         put(bytes, 0, &bytes_of(device));
-        return 0;
+        return Refusal {
+            number: 0,
+            place: 0,
+        };
     }
-    outcome::BAD_STATE
+    Refusal {
+        number: outcome::BAD_STATE,
+        place: 0,
+    }
 }
 
 // Reads the state from a slice. Refuses a slice that is not `SIZE` bytes long, and bytes that no device can hold, with 11. A device that

@@ -1,5 +1,6 @@
 -- `runnelopal_fresh` saves the fresh device, and refuses a slice of any other length.
-use mathlib.Core.Path.{_∙_}
+use mathlib.Core.Path.{ap, _∙_}
+use Rattle.outcome.specs.declared.Refusal.{Refusal}
 use borrow.Author.Needs.{needs}
 use Rattle.runnelopal.proofs.runnelopal_fresh.Statement.{statement}
 use Rattle.runnelopal.proofs.runnelopal_fresh.Tie as tie
@@ -14,7 +15,7 @@ same-length : tie.Need-same-length
 same-length c = search needs
 
 returns : tie.Need-returns
-returns c = (c .before .before .save .ensures .0, c .before .before .save .ensures .1 ∙ rw (c .before .before .before .before .fresh .ensures))
+returns c = (ap (λ (f : Refusal). f .number) (c .before .before .save .ensures .0), c .before .before .save .ensures .1 ∙ rw (c .before .before .before .before .fresh .ensures))
 
 pub runnelopal-fresh-spec : {M : Type 1} → statement M
 runnelopal-fresh-spec = tie.close (tie.spec fresh-requires save-requires same-length returns)
