@@ -177,8 +177,8 @@ Ended c =
     ≡ refusal (c .scan-test .number) (c .before .scan .k))
     × (c .scan-test .number ≡ 0 → ⊥))
 
-closedByEnd : (c : tie.Left-scan Inv-loop μ-loop Inv-scan μ-scan) → Ended c
-closedByEnd c =
+scan-ended : (c : tie.Left-scan Inv-loop μ-loop Inv-scan μ-scan) → Ended c
+scan-ended c =
     let s = c .before .scan in
     let g = s .inv in
     ⊎-elim (λ w. inl (w .1 ∙ g .clear, w .0 .left))
@@ -212,7 +212,7 @@ refusal-at-requires c κs = omega (arith, c .before .before .scan .inv .inside, 
 returns : tie.Need-returns Inv-loop μ-loop Inv-scan μ-scan
 returns c =
     ⊎-elim (λ w. absurd (c .before .if5 .taken (w .0)))
-    (λ w. c .refusal-at .ensures ∙ scan-faulted _ _ _ _ (c .before .before .before .before .before .pre .1) (w .0) (w .1)) (closedByEnd (c .before .before))
+    (λ w. c .refusal-at .ensures ∙ scan-faulted _ _ _ _ (c .before .before .before .before .before .pre .1) (w .0) (w .1)) (scan-ended (c .before .before))
 
 innermost-requires : tie.Need-innermost-requires Inv-loop μ-loop Inv-scan μ-scan
 innermost-requires c κs = c .before .before .before .scan .inv .kept .deep
@@ -228,7 +228,7 @@ returns-2 c =
     let s = l .before in
     ⊎-elim
     (λ w. c .refusal-at2 .ensures ∙ scan-unended _ _ _ _ _ _ _ (s .scan .inv) (w .1) (s .before .before .pre .1) (λ q. c .before .if6 .taken (c .before .before .innermost .ensures ∙ q)))
-    (λ w. absurd (w .1 (c .before .before .before .before .if5 .left))) (closedByEnd l)
+    (λ w. absurd (w .1 (c .before .before .before .before .if5 .left))) (scan-ended l)
 
 returns-3 : tie.Need-returns-3 Inv-loop μ-loop Inv-scan μ-scan
 returns-3 c =
@@ -236,7 +236,7 @@ returns-3 c =
     let s = l .before in
     ⊎-elim
     (λ w. scan-done _ _ _ _ _ _ _ (s .scan .inv) (w .1) (s .before .before .pre .1) (sym (c .before .innermost .ensures) ∙ c .if6 .left))
-    (λ w. absurd (w .1 (c .before .before .before .if5 .left))) (closedByEnd l)
+    (λ w. absurd (w .1 (c .before .before .before .if5 .left))) (scan-ended l)
 
 pub scan-records-spec : {M : Type 1} → statement M
 scan-records-spec =
