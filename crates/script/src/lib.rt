@@ -183,11 +183,12 @@ fn is_misplaced(blocks: &[u8; MOST_BLOCKS], depth: usize, kind: u32) -> bool
 fn is_full(depth: usize, kind: u32) -> bool
     ensures { λ r. ⌜ r ≡ full depth kind ⌝ }
 {
+    let full = MOST_BLOCKS <= depth;
     if kind == REPEAT {
-        return MOST_BLOCKS <= depth;
+        return full;
     }
     if kind == IF {
-        return MOST_BLOCKS <= depth;
+        return full;
     }
     false
 }
