@@ -117,7 +117,7 @@ module _ (d : Device) where
       rw (eq-eqb (length (stateBytes d)) stateSize state-length, state-saved)
       (ap {B = LoadResult} (λ (e : Device). record { refusal = 0; place = 0; device = e }) (device-back t))
 
--- a caller who overlooks that nothing was loaded is refused by the next call
+-- a caller who overlooks that nothing was loaded is refused by the next single call or run
 pub no-device-refused : deviceInRange noDevice ≡ false
 unfolding deviceInRange configInRange
 no-device-refused = refl

@@ -65,7 +65,7 @@ abbrev pub saveRefusal : List ℕ → Refusal
 saveRefusal bytes = cond (eqb (length bytes) stateSize) (refusal 0 0) (refusal number.badState 0)
 
 -- ---- loading: bytes of another length, and bytes that no device can hold, are refused with 11 at place 0
--- activate has the mask 01h, so this device is not in range, and every call refuses it
+-- activate has the mask 01h, so this device is not in range, and single calls and runs refuse it
 abbrev pub noDevice : Device
 noDevice = withConfig freshDevice (withActivate freshConfig 0x02)
 

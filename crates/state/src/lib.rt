@@ -33,7 +33,7 @@ pub const SIZE: usize = ACPI_START + Acpi::SIZE;
 // The mask of activate is 01h.
 const OUTSIDE_ACTIVATE_MASK: u8 = 0x02;
 
-// What `load` returns: refusal 0 and the device, or refusal 11, place 0 and a device that every call refuses.
+// What `load` returns: refusal 0 and the device, or refusal 11, place 0 and a device that single calls and runs refuse.
 pub struct LoadResult {
     pub refusal: u32,
     pub place: u32,
@@ -89,7 +89,7 @@ fn read_from(bytes: &[u8]) -> Device
 }
 
 // A device whose register activate has a bit outside its mask. It is not in range, so that a caller who overlooks the refusal is refused
-// with 11 by the next call.
+// with 11 by the next single call or run. `Device::access` does not check the range.
 fn no_device() -> Device
     ensures { λ r. ⌜ r ≡ noDevice ⌝ }
 {
