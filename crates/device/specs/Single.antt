@@ -3,8 +3,9 @@
 -- 0 in each. A refusal's other numbers are 0"
 use Prim.Native.Nat.{ℕ}
 use mathlib.Core.Bool.{Bool, true, false, cond, _&&_}
-use lib.Dec.{leb}
+use lib.Dec.{eqb, leb}
 use Rattle.access.specs.declared.Access.{Access}
+use Rattle.access.specs.declared.Answer.{Answer}
 use Rattle.width.specs.Width.{fitsWidth, isWidth}
 use Rattle.device.specs.Device.{deviceInRange, outputsOf}
 use Rattle.device.specs.Dispatch.{deviceAccess}
@@ -13,6 +14,8 @@ use Rattle.device.specs.declared.Device.{Device}
 use Rattle.outcome.specs.Number as number
 use Rattle.device.specs.declared.Outputs.{Outputs}
 use Rattle.device.specs.declared.AccessResult.{AccessResult}
+use Rattle.device.specs.declared.single.AccessReply.{AccessReply}
+use Rattle.device.specs.declared.single.EventReply.{EventReply}
 use Rattle.device.specs.declared.single.SingleAccess.{SingleAccess}
 use Rattle.device.specs.declared.single.SingleEvent.{SingleEvent}
 
@@ -20,32 +23,44 @@ use Rattle.device.specs.declared.single.SingleEvent.{SingleEvent}
 abbrev pub isAccess : Access → Bool
 isAccess x = isWidth (x .width) && (leb (x .port) 0xFFFF && cond (x .write) (fitsWidth (x .width) (x .value)) true)
 
+-- "11, then" the refusal of the call itself; 0 if the call can be made
+abbrev pub callRefusal : (valid allowed : Bool) → ℕ → ℕ
+callRefusal valid allowed n = cond valid (cond allowed 0 n) number.badState
+
 abbrev pub noOutputs : Outputs
 noOutputs = record { sci = false; smi = false; monitor = false }
 
-abbrev pub accessRefused : ℕ → Device → SingleAccess
-accessRefused n d = record { refusal = n; place = 0; status = 0; value = 0; outputs = noOutputs; device = d }
+abbrev pub accessRefused : ℕ → AccessReply
+accessRefused n = record { refusal = n; place = 0; status = 0; value = 0; outputs = noOutputs }
 
-abbrev pub accessDone : AccessResult → SingleAccess
-accessDone r = record {
-  refusal = 0;
-  place = 0;
-  status = r .answer .status;
-  value = r .answer .value;
-  outputs = outputsOf (r .device);
-  device = r .device;
-}
+abbrev pub accessDone : Answer → Outputs → AccessReply
+accessDone a o = record { refusal = 0; place = 0; status = a .status; value = a .value; outputs = o }
 
+abbrev pub accessRefusal : Device → Access → ℕ
+accessRefusal d x = callRefusal (deviceInRange d) (isAccess x) number.badField
+
+abbrev pub accessMade : AccessResult → SingleAccess
+accessMade r = record { device = r .device; reply = accessDone (r .answer) (outputsOf (r .device)) }
+
+-- a refusal returns the device unchanged
 unfoldable pub singleAccess : Device → Access → SingleAccess
 singleAccess d x =
-    cond (deviceInRange d) (cond (isAccess x) (accessDone (deviceAccess d x)) (accessRefused number.badField d)) (accessRefused number.badState d)
+    cond (eqb (accessRefusal d x) 0)
+    (accessMade (deviceAccess d x))
+    (record { device = d; reply = accessRefused (accessRefusal d x) })
 
-abbrev pub eventRefused : ℕ → Device → SingleEvent
-eventRefused n d = record { refusal = n; place = 0; outputs = noOutputs; device = d }
+abbrev pub eventRefused : ℕ → EventReply
+eventRefused n = record { refusal = n; place = 0; outputs = noOutputs }
 
-abbrev pub eventDone : Device → SingleEvent
-eventDone d = record { refusal = 0; place = 0; outputs = outputsOf d; device = d }
+abbrev pub eventDone : Outputs → EventReply
+eventDone o = record { refusal = 0; place = 0; outputs = o }
+
+abbrev pub eventRefusal : Device → ℕ → ℕ
+eventRefusal d n = callRefusal (deviceInRange d) (isEvent n) number.badEvent
+
+abbrev pub eventMade : Device → SingleEvent
+eventMade d = record { device = d; reply = eventDone (outputsOf d) }
 
 unfoldable pub singleEvent : Device → ℕ → SingleEvent
 singleEvent d n =
-    cond (deviceInRange d) (cond (isEvent n) (eventDone (applyEvent d n)) (eventRefused number.badEvent d)) (eventRefused number.badState d)
+    cond (eqb (eventRefusal d n) 0) (eventMade (applyEvent d n)) (record { device = d; reply = eventRefused (eventRefusal d n) })

@@ -1,16 +1,27 @@
 // Single calls: one access or one event on any device, valid or not, with any numbers. A refusal returns the device unchanged.
 // `runnelopal` and `replay` call them. See docs/CHIP.md, "Single calls".
 use access::Access;
+use access::Answer;
 ghost use mathlib.Core.Path.{_≡_};
-ghost use Rattle.device.specs.Single.{isAccess, accessRefused, accessDone, singleAccess, eventRefused, eventDone, singleEvent, noOutputs};
-use crate::AccessResult;
+ghost use Rattle.device.specs.Single.{
+  isAccess,
+  callRefusal,
+  accessRefusal,
+  accessRefused,
+  accessDone,
+  singleAccess,
+  eventRefusal,
+  eventRefused,
+  eventDone,
+  singleEvent,
+  noOutputs,
+};
 use crate::Device;
 use crate::Outputs;
 
-// The answer to a single access. `refusal` is 0 if the access was made. Otherwise it is the number
+// The reply to a single access. `refusal` is 0 if the access was made. Otherwise it is the number
 // of the refusal, and all other numbers are 0.
-pub struct SingleAccess {
-    pub device: Device,
+pub struct AccessReply {
     pub refusal: u32,
     pub place: u32,
     pub status: u32,
@@ -18,12 +29,22 @@ pub struct SingleAccess {
     pub outputs: Outputs,
 }
 
-// The answer to a single event, in the same form.
-pub struct SingleEvent {
-    pub device: Device,
+// The reply to a single event, in the same form.
+pub struct EventReply {
     pub refusal: u32,
     pub place: u32,
     pub outputs: Outputs,
+}
+
+// The reply, and the device after the call.
+pub struct SingleAccess {
+    pub device: Device,
+    pub reply: AccessReply,
+}
+
+pub struct SingleEvent {
+    pub device: Device,
+    pub reply: EventReply,
 }
 
 // False for the accesses that are refused with 4. The value of a read is not checked.
@@ -42,92 +63,127 @@ fn is_access(access: Access) -> bool
     true
 }
 
-fn no_outputs() -> Outputs
-    ensures { λ r. ⌜ r ≡ noOutputs ⌝ }
-{
-    Outputs {
-        sci: false,
-        smi: false,
-        monitor: false,
+impl Outputs {
+    pub fn none() -> Self
+        ensures { λ r. ⌜ r ≡ noOutputs ⌝ }
+    {
+        Outputs {
+            sci: false,
+            smi: false,
+            monitor: false,
+        }
     }
 }
 
-pub fn access_refused(number: u32, device: Device) -> SingleAccess
-    ensures { λ r. ⌜ r ≡ accessRefused number device ⌝ }
-{
-    let outputs = no_outputs();
-    SingleAccess {
-        refusal: number,
-        place: 0,
-        status: 0,
-        value: 0,
-        outputs,
-        device,
+impl AccessReply {
+    pub fn refused(number: u32) -> Self
+        ensures { λ r. ⌜ r ≡ accessRefused number ⌝ }
+    {
+        let outputs = Outputs::none();
+        AccessReply {
+            refusal: number,
+            place: 0,
+            status: 0,
+            value: 0,
+            outputs,
+        }
+    }
+
+    pub fn done(answer: Answer, outputs: Outputs) -> Self
+        ensures { λ r. ⌜ r ≡ accessDone answer outputs ⌝ }
+    {
+        AccessReply {
+            refusal: 0,
+            place: 0,
+            status: answer.status,
+            value: answer.value,
+            outputs,
+        }
     }
 }
 
-fn access_done(result: AccessResult) -> SingleAccess
-    ensures { λ r. ⌜ r ≡ accessDone result ⌝ }
-{
-    let answer = result.answer;
-    let device = result.device;
-    let outputs = device.outputs();
-    SingleAccess {
-        refusal: 0,
-        place: 0,
-        status: answer.status,
-        value: answer.value,
-        outputs,
-        device,
+impl EventReply {
+    pub fn refused(number: u32) -> Self
+        ensures { λ r. ⌜ r ≡ eventRefused number ⌝ }
+    {
+        let outputs = Outputs::none();
+        EventReply {
+            refusal: number,
+            place: 0,
+            outputs,
+        }
+    }
+
+    pub fn done(outputs: Outputs) -> Self
+        ensures { λ r. ⌜ r ≡ eventDone outputs ⌝ }
+    {
+        EventReply {
+            refusal: 0,
+            place: 0,
+            outputs,
+        }
     }
 }
 
-pub fn event_refused(number: u32, device: Device) -> SingleEvent
-    ensures { λ r. ⌜ r ≡ eventRefused number device ⌝ }
+// Refusal 11 comes before the refusal of the call itself. The result is 0 if the call can be made.
+fn call_refusal(valid: bool, allowed: bool, number: u32) -> u32
+    ensures { λ r. ⌜ r ≡ callRefusal valid allowed number ⌝ }
 {
-    let outputs = no_outputs();
-    SingleEvent {
-        refusal: number,
-        place: 0,
-        outputs,
-        device,
+    if !valid {
+        return outcome::BAD_STATE;
     }
-}
-
-fn event_done(device: Device) -> SingleEvent
-    ensures { λ r. ⌜ r ≡ eventDone device ⌝ }
-{
-    let outputs = device.outputs();
-    SingleEvent {
-        refusal: 0,
-        place: 0,
-        outputs,
-        device,
+    if !allowed {
+        return number;
     }
+    0
 }
 
 impl Device {
+    pub fn access_refusal(self, access: Access) -> u32
+        ensures { λ r. ⌜ r ≡ accessRefusal self access ⌝ }
+    {
+        call_refusal(self.in_range(), is_access(access), outcome::BAD_FIELD)
+    }
+
     pub fn single_access(self, access: Access) -> SingleAccess
         ensures { λ r. ⌜ r ≡ singleAccess self access ⌝ }
     {
-        if !self.in_range() {
-            return access_refused(outcome::BAD_STATE, self);
+        let refusal = self.access_refusal(access);
+        if refusal != 0 {
+            return SingleAccess {
+                device: self,
+                reply: AccessReply::refused(refusal),
+            };
         }
-        if !is_access(access) {
-            return access_refused(outcome::BAD_FIELD, self);
+        let made = self.access(access);
+        let answer = made.answer;
+        let device = made.device;
+        SingleAccess {
+            device,
+            reply: AccessReply::done(answer, device.outputs()),
         }
-        access_done(self.access(access))
+    }
+
+    pub fn event_refusal(self, number: u32) -> u32
+        ensures { λ r. ⌜ r ≡ eventRefusal self number ⌝ }
+    {
+        call_refusal(self.in_range(), crate::event::is_event(number), outcome::BAD_EVENT)
     }
 
     pub fn single_event(self, number: u32) -> SingleEvent
         ensures { λ r. ⌜ r ≡ singleEvent self number ⌝ }
     {
-        if !self.in_range() {
-            return event_refused(outcome::BAD_STATE, self);
+        let refusal = self.event_refusal(number);
+        if refusal != 0 {
+            return SingleEvent {
+                device: self,
+                reply: EventReply::refused(refusal),
+            };
         }
-        if !crate::event::is_event(number) {
-            return event_refused(outcome::BAD_EVENT, self);
+        let device = self.apply_event(number);
+        SingleEvent {
+            device,
+            reply: EventReply::done(device.outputs()),
         }
-        event_done(self.apply_event(number))
     }
 }

@@ -11,11 +11,12 @@ use state::LoadResult;
 fn access(device: Device, access: Access) -> Device {
     let r = device.single_access(access);
     let next = r.device;
-    let outputs = r.outputs;
-    if r.refusal == 0 {
-        answer::access_done(r.status, r.value, outputs);
+    let reply = r.reply;
+    let outputs = reply.outputs;
+    if reply.refusal == 0 {
+        answer::access_done(reply.status, reply.value, outputs);
     } else {
-        answer::refused(r.refusal, r.place);
+        answer::refused(reply.refusal, reply.place);
     }
     next
 }
@@ -68,11 +69,12 @@ fn event(device: Device, line: &[u8]) -> Device {
     if number.ok && digits::at_end(line, number.next) {
         let r = device.single_event(number.value);
         let next = r.device;
-        let outputs = r.outputs;
-        if r.refusal == 0 {
+        let reply = r.reply;
+        let outputs = reply.outputs;
+        if reply.refusal == 0 {
             answer::event_done(outputs);
         } else {
-            answer::refused(r.refusal, r.place);
+            answer::refused(reply.refusal, reply.place);
         }
         return next;
     }
@@ -98,7 +100,7 @@ fn load_bytes(bytes: &[u8; state::SIZE]) -> LoadResult {
     state::load(bytes)
 }
 
-// L bytes
+// L bytes. After a refusal the session keeps its device.
 fn load(device: Device, line: &[u8]) -> Device {
     let mut bytes = [0u8; state::SIZE];
     if !digits::is_space(line, 1) {
@@ -111,13 +113,12 @@ fn load(device: Device, line: &[u8]) -> Device {
         return unread(device);
     }
     let loaded = load_bytes(&bytes);
-    let next = loaded.device;
     if loaded.refusal == 0 {
         answer::loaded();
-        return next;
+    } else {
+        answer::refused(loaded.refusal, loaded.place);
     }
-    answer::refused(loaded.refusal, loaded.place);
-    device
+    loaded.device_or(device)
 }
 
 // F

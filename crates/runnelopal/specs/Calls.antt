@@ -2,21 +2,18 @@
 use Prim.Native.Nat.{ℕ, suc}
 use mathlib.Core.Bool.{Bool, cond}
 use mathlib.Core.List.{List, [], _∷_}
-use lib.Dec.{eqb}
 use lib.ListN.{set}
 use Rattle.access.specs.declared.Access.{Access}
 use Rattle.device.specs.Device.{freshDevice}
-use Rattle.device.specs.Single.{accessRefused, eventRefused, singleAccess, singleEvent}
 use Rattle.device.specs.declared.Device.{Device}
 use Rattle.device.specs.declared.Outputs.{Outputs}
-use Rattle.device.specs.declared.single.SingleAccess.{SingleAccess}
-use Rattle.device.specs.declared.single.SingleEvent.{SingleEvent}
-use Rattle.outcome.specs.Number as number
+use Rattle.device.specs.declared.single.AccessReply.{AccessReply}
+use Rattle.device.specs.declared.single.EventReply.{EventReply}
 use Rattle.sequencer.specs.Run.{isRefusal, runAnswer}
 use Rattle.step.specs.Sequencer.{freshSequencer}
 use Rattle.sequencer.specs.declared.RunResult.{RunResult}
 use Rattle.little_endian.specs.Bytes.{flagByte}
-use Rattle.state.specs.State.{loaded, saved}
+use Rattle.state.specs.State.{saved}
 
 -- numbers one after the other, from index k on; those that do not fit into the slice are dropped
 abbrev pub numbered : ℕ → List ℕ → List ℕ → List ℕ
@@ -38,22 +35,11 @@ runSavedUnlessRefused outcome d state = cond (isRefusal outcome) state (saved d 
 abbrev pub outputNumbers : Outputs → List ℕ
 outputNumbers o = flagByte (o .sci) ∷ flagByte (o .smi) ∷ flagByte (o .monitor) ∷ []
 
--- ---- a saved device: bytes that are no device are loaded as `noDevice`, which is refused with 11 like any device that is not valid
-abbrev pub savedAccess : List ℕ → Access → SingleAccess
-savedAccess state x = singleAccess (loaded state .device) x
-
-abbrev pub savedEvent : List ℕ → ℕ → SingleEvent
-savedEvent state n = singleEvent (loaded state .device) n
-
--- a refusal leaves the state unchanged
-abbrev pub savedUnlessRefused : ℕ → Device → List ℕ → List ℕ
-savedUnlessRefused refusal d state = cond (eqb refusal 0) (saved d state) state
-
 abbrev pub accessOf : Bool → (width port value : ℕ) → Access
 accessOf write w p v = record { write = write; width = w; port = p; value = v }
 
-abbrev pub accessNumbers : SingleAccess → List ℕ
+abbrev pub accessNumbers : AccessReply → List ℕ
 accessNumbers r = r .place ∷ r .status ∷ r .value ∷ outputNumbers (r .outputs)
 
-abbrev pub eventNumbers : SingleEvent → List ℕ
+abbrev pub eventNumbers : EventReply → List ℕ
 eventNumbers r = r .place ∷ outputNumbers (r .outputs)

@@ -3,8 +3,8 @@
 use access::Access;
 use device::Device;
 use device::Outputs;
-use device::single::SingleAccess;
-use device::single::SingleEvent;
+use device::single::AccessReply;
+use device::single::EventReply;
 use sequencer::RunResult;
 use step::Sequencer;
 ghost use mathlib.Core.Path.{_≡_};
@@ -16,6 +16,7 @@ ghost use Rattle.device.specs.Device.{freshDevice};
 ghost use Rattle.sequencer.specs.Run.{logAfter};
 ghost use Rattle.step.specs.Sequencer.{freshSequencer};
 ghost use Rattle.little_endian.specs.Bytes.{flagByte};
+ghost use Rattle.state.specs.Call.{savedAccess, afterAccess, savedEvent, afterEvent};
 ghost use Rattle.state.specs.State.{saved, saveRefusal};
 ghost use Rattle.runnelopal.specs.Calls.{
   numbered,
@@ -24,10 +25,7 @@ ghost use Rattle.runnelopal.specs.Calls.{
   runNumbers,
   accessOf,
   accessNumbers,
-  savedAccess,
   eventNumbers,
-  savedEvent,
-  savedUnlessRefused,
   runSavedUnlessRefused,
 };
 
@@ -126,7 +124,7 @@ pub extern "C" fn runnelopal_fresh(state: &mut [u8]) -> u32
     saved.number
 }
 
-fn put_access(answer: &mut [u64], r: SingleAccess)
+fn put_access(answer: &mut [u64], r: AccessReply)
     ensures { λ _. ⌜ now (answer .exit) ≡ numbered 0 (accessNumbers r) (now (answer .entry)) ⌝ }
 {
     let outputs = r.outputs;
@@ -136,21 +134,12 @@ fn put_access(answer: &mut [u64], r: SingleAccess)
     put_outputs(answer, 3, outputs);
 }
 
-fn put_event(answer: &mut [u64], r: SingleEvent)
+fn put_event(answer: &mut [u64], r: EventReply)
     ensures { λ _. ⌜ now (answer .exit) ≡ numbered 0 (eventNumbers r) (now (answer .entry)) ⌝ }
 {
     let outputs = r.outputs;
     put(answer, 0, r.place as u64);
     put_outputs(answer, 1, outputs);
-}
-
-// A refusal leaves the state unchanged.
-fn save_unless_refused(state: &mut [u8], refusal: u32, device: Device)
-    ensures { λ _. ⌜ now (state .exit) ≡ savedUnlessRefused refusal device (now (state .entry)) ⌝ }
-{
-    if refusal == 0 {
-        state::save(device, state);
-    }
 }
 
 // One access to a saved device. In `answer`: the place of a refusal, the status, the value, SCI, SMI, the monitor interrupt.
@@ -164,19 +153,16 @@ pub extern "C" fn runnelopal_access(
     answer: &mut [u64],
 ) -> u32
     ensures { λ r. ⌜ r ≡ savedAccess (now (state .entry)) (accessOf write width port value) .refusal ⌝ }
-    ensures { λ _. ⌜ now (state .exit) ≡ savedUnlessRefused (savedAccess (now (state .entry)) (accessOf write width port value) .refusal) (savedAccess (now (state .entry)) (accessOf write width port value) .device) (now (state .entry)) ⌝ }
+    ensures { λ _. ⌜ now (state .exit) ≡ afterAccess (now (state .entry)) (accessOf write width port value) ⌝ }
     ensures { λ _. ⌜ now (answer .exit) ≡ numbered 0 (accessNumbers (savedAccess (now (state .entry)) (accessOf write width port value))) (now (answer .entry)) ⌝ }
 {
-    let loaded = state::load(state);
-    let device = loaded.device;
-    let r = device.single_access(Access {
+    let access = Access {
         write,
         width,
         port,
         value,
-    });
-    let next = r.device;
-    save_unless_refused(state, r.refusal, next);
+    };
+    let r = state::call::access(state, access);
     put_access(answer, r);
     r.refusal
 }
@@ -185,14 +171,10 @@ pub extern "C" fn runnelopal_access(
 #[no_mangle]
 pub extern "C" fn runnelopal_event(state: &mut [u8], number: u32, answer: &mut [u64]) -> u32
     ensures { λ r. ⌜ r ≡ savedEvent (now (state .entry)) number .refusal ⌝ }
-    ensures { λ _. ⌜ now (state .exit) ≡ savedUnlessRefused (savedEvent (now (state .entry)) number .refusal) (savedEvent (now (state .entry)) number .device) (now (state .entry)) ⌝ }
+    ensures { λ _. ⌜ now (state .exit) ≡ afterEvent (now (state .entry)) number ⌝ }
     ensures { λ _. ⌜ now (answer .exit) ≡ numbered 0 (eventNumbers (savedEvent (now (state .entry)) number)) (now (answer .entry)) ⌝ }
 {
-    let loaded = state::load(state);
-    let device = loaded.device;
-    let r = device.single_event(number);
-    let next = r.device;
-    save_unless_refused(state, r.refusal, next);
+    let r = state::call::event(state, number);
     put_event(answer, r);
     r.refusal
 }

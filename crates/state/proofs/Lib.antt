@@ -1,3 +1,4 @@
+pub mod Calls
 pub mod Parts
 pub mod RoundTrip
 pub mod Slices

@@ -11,8 +11,6 @@ use Rattle.acpi.proofs.Saved as of-acpi
 use Rattle.acpi.specs.Saved.{acpiBytes, acpiFrom, acpiSaved, acpiSize}
 use Rattle.config.proofs.Saved as of-config
 use Rattle.config.specs.Saved.{configBytes, configFrom, configSaved, configSize}
-use Rattle.config.specs.Config.{configInRange}
-use Rattle.device.specs.Device.{deviceInRange}
 use Rattle.device.specs.declared.Device.{Device}
 use Rattle.key.proofs.Saved as of-key
 use Rattle.key.specs.Saved.{keyBytes, keyFrom, keySize}
@@ -23,12 +21,12 @@ use Rattle.state.proofs.Parts.{cut, front-part, later-part, part-bytes,
 use Rattle.state.specs.State.{
   acpiStart,
   deviceFrom,
+  holdsDevice,
   isSaved,
   savedTests,
   keyStart,
   loaded,
   monitorStart,
-  noDevice,
   part,
   stateBytes,
   stateSize,
@@ -112,15 +110,10 @@ module _ (d : Device) where
 
   -- the same for `load`, which also checks the length
   pub load-back : Typed d → loaded (stateBytes d) ≡ record { refusal = 0; place = 0; device = d }
-  unfolding loaded
+  unfolding loaded holdsDevice
   load-back t =
       rw (eq-eqb (length (stateBytes d)) stateSize state-length, state-saved)
       (ap {B = LoadResult} (λ (e : Device). record { refusal = 0; place = 0; device = e }) (device-back t))
-
--- a caller who overlooks that nothing was loaded is refused by the next single call or run
-pub no-device-refused : deviceInRange noDevice ≡ false
-unfolding deviceInRange configInRange
-no-device-refused = refl
 
 -- ---- loaded, then saved
 four-equal : {a b c d a′ b′ c′ d′ : List ℕ} → a ≡ a′ → b ≡ b′ → c ≡ c′ → d ≡ d′

@@ -1,17 +1,17 @@
--- `save` and `load` on slices of any length: a slice of `stateSize` bytes is written or read as a whole. Any other slice is
--- unchanged by `save` and refused by `load`.
+-- Slices of any length: `save` writes a slice of `stateSize` bytes as a whole and leaves any other slice unchanged. Only a slice of that
+-- length can hold a device.
 use Prim.Native.Nat.{ℕ, _+_, _≤_}
-use mathlib.Core.Path.{_≡_, sym, _∙_}
-use mathlib.Core.Bool.{true, false}
+use mathlib.Core.Path.{_≡_, refl, sym, _∙_}
+use mathlib.Core.Bool.{Bool, true, false, cond, false≢true}
+use lib.Dec.{eqb}
 use mathlib.Core.List.{List, [], append-nil}
 use lib.ListN.{drop, drop-of-length-le, length}
 use lib.Seq.{paste, take-length}
-use borrow.Author.Tests.{eq-eqb, ne-eqb}
+use borrow.Author.Tests.{eq-eqb, eqb-true, ne-eqb}
 use native.Mathlib.Omega.{arith}
 use Rattle.device.specs.declared.Device.{Device}
 use Rattle.state.proofs.RoundTrip.{state-length}
-use Rattle.state.specs.State.{deviceFrom, isSaved, loaded, notLoaded, saved, stateBytes, stateSize}
-use Rattle.state.specs.declared.LoadResult.{LoadResult}
+use Rattle.state.specs.State.{holdsDevice, isSaved, saved, stateBytes, stateSize}
 
 -- pasting a list of the same length at index 0 replaces the whole list
 pub whole : (lent part : List ℕ) → length part ≡ length lent → paste lent 0 part (length part) ≡ part
@@ -31,15 +31,19 @@ pub saved-not : (d : Device) (lent : List ℕ) → (length lent ≡ stateSize �
 unfolding saved
 saved-not d lent n = rw (ne-eqb (length lent) stateSize n)
 
-pub loaded-whole : (bytes : List ℕ) (d : Device) → length bytes ≡ stateSize → isSaved bytes ≡ true → d ≡ deviceFrom bytes
-    → _≡_ {A = LoadResult} (record { refusal = 0; place = 0; device = d }) (loaded bytes)
-unfolding loaded
-loaded-whole bytes d n s e = rw (eq-eqb (length bytes) stateSize n, s, e)
+pub holds-saved : (bytes : List ℕ) → length bytes ≡ stateSize → isSaved bytes ≡ holdsDevice bytes
+unfolding holdsDevice
+holds-saved bytes n = rw (eq-eqb (length bytes) stateSize n)
 
-pub loaded-unsaved : (bytes : List ℕ) → length bytes ≡ stateSize → isSaved bytes ≡ false → notLoaded ≡ loaded bytes
-unfolding loaded
-loaded-unsaved bytes n s = rw (eq-eqb (length bytes) stateSize n, s)
+pub holds-not : (bytes : List ℕ) → (length bytes ≡ stateSize → ⊥) → false ≡ holdsDevice bytes
+unfolding holdsDevice
+holds-not bytes n = rw (ne-eqb (length bytes) stateSize n)
 
-pub loaded-not : (bytes : List ℕ) → (length bytes ≡ stateSize → ⊥) → notLoaded ≡ loaded bytes
-unfolding loaded
-loaded-not bytes n = rw (ne-eqb (length bytes) stateSize n)
+-- bytes that hold a device have the length of a state
+pub holds-length : (bytes : List ℕ) → holdsDevice bytes ≡ true → length bytes ≡ stateSize
+unfolding holdsDevice
+holds-length bytes h = pick (eqb (length bytes) stateSize) refl h
+  where
+    pick : (a : Bool) → eqb (length bytes) stateSize ≡ a → cond a (isSaved bytes) false ≡ true → length bytes ≡ stateSize
+    pick true e s = eqb-true (length bytes) stateSize e
+    pick false e s = absurd (false≢true s)

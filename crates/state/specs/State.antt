@@ -1,15 +1,13 @@
 -- A saved device: the bytes of the blocks, one block after the other, and the way back. Each block defines its own bytes, in
 -- `specs/Saved.antt` of its crate. See docs/STATE.md.
 use Prim.Native.Nat.{ℕ, _+_}
-use mathlib.Core.Bool.{Bool, cond}
+use mathlib.Core.Bool.{Bool, false, cond}
 use mathlib.Core.List.{List, [], _∷_, _++_}
 use lib.Dec.{eqb}
 use lib.ListN.{drop, length, take}
 use Rattle.acpi.specs.Saved.{acpiBytes, acpiFrom, acpiSaved, acpiSize}
 use Rattle.config.specs.Saved.{configBytes, configFrom, configSaved, configSize}
-use Rattle.config.specs.Config.{freshConfig}
-use Rattle.config.specs.Fields.{withActivate}
-use Rattle.device.specs.Device.{freshDevice, withConfig}
+use Rattle.device.specs.Device.{freshDevice}
 use Rattle.device.specs.declared.Device.{Device}
 use Rattle.key.specs.Saved.{keyBytes, keyFrom, keySize}
 use Rattle.lists.specs.Tests.{allHold}
@@ -65,15 +63,16 @@ abbrev pub saveRefusal : List ℕ → Refusal
 saveRefusal bytes = cond (eqb (length bytes) stateSize) (refusal 0 0) (refusal number.badState 0)
 
 -- ---- loading: bytes of another length, and bytes that no device can hold, are refused with 11 at place 0
--- activate has the mask 01h, so this device is not in range, and single calls and runs refuse it
-abbrev pub noDevice : Device
-noDevice = withConfig freshDevice (withActivate freshConfig 0x02)
+unfoldable pub holdsDevice : List ℕ → Bool
+holdsDevice bytes = cond (eqb (length bytes) stateSize) (isSaved bytes) false
 
-abbrev pub notLoaded : LoadResult
-notLoaded = record { refusal = number.badState; place = 0; device = noDevice }
-
+-- after a refusal nobody can read the device
 unfoldable pub loaded : List ℕ → LoadResult
 loaded bytes =
-    cond (eqb (length bytes) stateSize)
-    (cond (isSaved bytes) (record { refusal = 0; place = 0; device = deviceFrom bytes }) notLoaded)
-    notLoaded
+    cond (holdsDevice bytes)
+    (record { refusal = 0; place = 0; device = deviceFrom bytes })
+    (record { refusal = number.badState; place = 0; device = freshDevice })
+
+-- the loaded device, or another one after a refusal
+abbrev pub deviceOr : LoadResult → Device → Device
+deviceOr l otherwise = cond (eqb (l .refusal) 0) (l .device) otherwise

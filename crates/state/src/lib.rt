@@ -1,4 +1,6 @@
 // Saves a device as 106 bytes, block after block, and loads it again. `runnelopal` and `replay` use it. See docs/STATE.md.
+pub mod call;
+
 use acpi::Acpi;
 use config::Config;
 use device::Device;
@@ -14,11 +16,11 @@ ghost use Rattle.state.specs.State.{
   stateSize,
   isSaved,
   deviceFrom,
-  noDevice,
-  notLoaded,
+  holdsDevice,
   saveRefusal,
   saved,
   loaded,
+  deviceOr,
 };
 
 // Where the bytes of each block start, and the length of a saved state.
@@ -30,14 +32,24 @@ const ACPI_START: usize = MONITOR_START + Monitor::SIZE;
 
 pub const SIZE: usize = ACPI_START + Acpi::SIZE;
 
-// The mask of activate is 01h.
-const OUTSIDE_ACTIVATE_MASK: u8 = 0x02;
-
-// What `load` returns: refusal 0 and the device, or refusal 11, place 0 and a device that single calls and runs refuse.
+// What `load` returns: refusal 0, or refusal 11 and place 0. The device is private, so that a caller gets it from `device_or` only, and has to
+// name the device that stays in use after a refusal.
 pub struct LoadResult {
     pub refusal: u32,
     pub place: u32,
-    pub device: Device,
+    device: Device,
+}
+
+impl LoadResult {
+    // The loaded device, or `otherwise` after a refusal.
+    pub fn device_or(self, otherwise: Device) -> Device
+        ensures { λ r. ⌜ r ≡ deviceOr self otherwise ⌝ }
+    {
+        if self.refusal == 0 {
+            return self.device;
+        }
+        otherwise
+    }
 }
 
 // Copies `part` into `bytes` at index `at`. The other bytes are unchanged.
@@ -88,36 +100,14 @@ fn read_from(bytes: &[u8]) -> Device
     }
 }
 
-// A device whose register activate has a bit outside its mask. It is not in range, so that a caller who overlooks the refusal is refused
-// with 11 by the next single call or run. `Device::access` does not check the range.
-fn no_device() -> Device
-    ensures { λ r. ⌜ r ≡ noDevice ⌝ }
+// Do the bytes have the length of a state, and can a device hold them?
+fn holds_device(bytes: &[u8]) -> bool
+    ensures { λ r. ⌜ r ≡ holdsDevice (now (bytes .entry)) ⌝ }
 {
-    let config = Config {
-        unlocked: false,
-        index: 0,
-        number: 0,
-        activate: OUTSIDE_ACTIVATE_MASK,
-        runtime_base: 0,
-        key_base: 0,
-        control: Config::CONTROL_RESET,
-    };
-    Device {
-        config,
-        acpi: Acpi::fresh(),
-        monitor: Monitor::fresh(),
-        key: Key::fresh(),
+    if bytes.len() != SIZE {
+        return false;
     }
-}
-
-fn not_loaded() -> LoadResult
-    ensures { λ r. ⌜ r ≡ notLoaded ⌝ }
-{
-    LoadResult {
-        refusal: outcome::BAD_STATE,
-        place: 0,
-        device: no_device(),
-    }
+    is_saved(bytes)
 }
 
 // Writes the state into a slice of `SIZE` bytes. A slice of any other length is unchanged, and refused with 11 at place 0.
@@ -142,15 +132,16 @@ pub fn save(device: Device, bytes: &mut [u8]) -> Refusal
 pub fn load(bytes: &[u8]) -> LoadResult
     ensures { λ r. ⌜ r ≡ loaded (now (bytes .entry)) ⌝ }
 {
-    if bytes.len() != SIZE {
-        return not_loaded();
-    }
-    if is_saved(bytes) {
+    if holds_device(bytes) {
         return LoadResult {
             refusal: 0,
             place: 0,
             device: read_from(bytes),
         };
     }
-    not_loaded()
+    LoadResult {
+        refusal: outcome::BAD_STATE,
+        place: 0,
+        device: Device::fresh(),
+    }
 }

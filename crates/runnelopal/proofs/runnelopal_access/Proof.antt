@@ -1,19 +1,12 @@
--- `runnelopal_access` returns and saves what `savedAccess` says. Bytes that are no device are loaded as one that `single_access` refuses.
-use mathlib.Core.Path.{_≡_, ap, _∙_}
-use Rattle.device.specs.declared.single.SingleAccess.{SingleAccess}
+-- `runnelopal_access` returns, saves and puts into `answer` what `call::access` replies.
+use mathlib.Core.Path.{ap, _∙_}
+use Rattle.device.specs.declared.single.AccessReply.{AccessReply}
 use borrow.Author.Needs.{needs}
-use Rattle.runnelopal.proofs.Saved.{access-answered}
 use Rattle.runnelopal.proofs.runnelopal_access.Statement.{statement}
 use Rattle.runnelopal.proofs.runnelopal_access.Tie as tie
 
-load-requires : tie.Need-load-requires
-load-requires c κs = search needs
-
-single-access-requires : tie.Need-single-access-requires
-single-access-requires c κs = search needs
-
-save-unless-refused-requires : tie.Need-save-unless-refused-requires
-save-unless-refused-requires c κs = search needs
+access-requires : tie.Need-access-requires
+access-requires c κs = search needs
 
 put-access-requires : tie.Need-put-access-requires
 put-access-requires c κs = search needs
@@ -25,16 +18,9 @@ same-length-2 : tie.Need-same-length-2
 same-length-2 c = search needs
 
 returns : tie.Need-returns
-returns c = let e = access-answered _ _ _ _ (c .before .before .before .before .before .before .before .before .before .before .before .load .ensures) (c .before .before .before .before .before .before .before .before .before .single-access .ensures) in (ap (λ (x : SingleAccess). x .refusal) e, (c .before .before .before .before .before .before .save-unless-refused .ensures ∙ rw e, c .before .before .put-access .ensures ∙ rw e))
+returns c = let e = c .before .before .before .before .before .before .access .ensures in
+    (ap (λ (r : AccessReply). r .refusal) (e .0), (e .1, c .before .before .put-access .ensures ∙ rw (e .0)))
 
 pub runnelopal-access-spec : {M : Type 1} → statement M
 runnelopal-access-spec =
-    tie.close
-    (tie.spec
-    load-requires
-    single-access-requires
-    save-unless-refused-requires
-    put-access-requires
-    same-length
-    same-length-2
-    returns)
+    tie.close (tie.spec access-requires put-access-requires same-length same-length-2 returns)
