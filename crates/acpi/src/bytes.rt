@@ -60,7 +60,6 @@ impl Acpi {
         ensures { λ r. ⌜ r ≡ acpiBytes self ⌝ }
     {
         let maps = self.maps;
-        let levels = self.levels;
         let map0 = maps[0];
         let map1 = maps[1];
         let map2 = maps[2];
@@ -107,14 +106,14 @@ impl Acpi {
             (self.timer / 256 % 256) as u8,
             (self.timer / 256 / 256 % 256) as u8,
             (self.timer / 256 / 256 / 256 % 256) as u8,
-            levels[0] as u8,
-            levels[1] as u8,
-            levels[2] as u8,
-            levels[3] as u8,
-            levels[4] as u8,
-            levels[5] as u8,
-            levels[6] as u8,
-            levels[7] as u8,
+            self.levels[0] as u8,
+            self.levels[1] as u8,
+            self.levels[2] as u8,
+            self.levels[3] as u8,
+            self.levels[4] as u8,
+            self.levels[5] as u8,
+            self.levels[6] as u8,
+            self.levels[7] as u8,
         ]
     }
 

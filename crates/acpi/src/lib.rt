@@ -33,10 +33,10 @@ pub struct Acpi {
     pub maps: [u16; 8],
     pub levels: [bool; 8],
     pub timer: u32,
-    // PM1a_STS, the CPU state and sleeping: the fields that settling changes.
-    pub pm1sts: u16,
+    // The CPU state, sleeping and PM1a_STS: the fields that settling changes.
     pub cpu: u8,
     pub sleeping: bool,
+    pub pm1sts: u16,
     // PM1a_EN, GPE0_STS, GPE0_EN, and the stored bits of PM1a_CNT.
     pub pm1en: u16,
     pub gpe0sts: u16,
@@ -362,13 +362,13 @@ fn is_cpu_state(value: u8) -> bool
     (value == 0) | (value == 2) | (value == 3)
 }
 
+// No early return: the compiler then tests all maps at once.
 fn maps_in_range(maps: [u16; 8]) -> bool
     ensures { λ r. ⌜ r ≡ allBelow 8 (mapInRange maps) ⌝ }
 {
+    let mut legal = true;
     for k in 0..8 {
-        if !map::is_legal(mask::wide16(maps[k])) {
-            return false;
-        }
+        legal = legal & map::is_legal(mask::wide16(maps[k]));
     }
-    true
+    legal
 }

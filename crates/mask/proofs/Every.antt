@@ -31,6 +31,9 @@ all-true zero p h = refl
 all-true (suc n) p h = and-both (allBelow n p) (p n) (all-true n p (λ k l. h k (omega arith))) (h n (omega arith))
 
 -- one more number
+pub all-next : (n : ℕ) (p : ℕ → Bool) → (allBelow n p && p n) ≡ allBelow (n + 1) p
+all-next n p = rw add-one
+
 pub all-more : (n : ℕ) (p : ℕ → Bool) → allBelow n p ≡ true → p n ≡ true → allBelow (n + 1) p ≡ true
 all-more n p h k = rw add-one (and-both (allBelow n p) (p n) h k)
 

@@ -126,17 +126,17 @@ impl Monitor {
     }
 
     // Is every stored register within its mask?
+    // No early return: the compiler then tests all registers at once.
     pub fn in_range(self) -> bool
         ensures { λ r. ⌜ r ≡ monitorInRange self ⌝ }
     {
         let registers = self.registers;
         let masks = Monitor::STORED_MASK;
+        let mut within = true;
         for k in 0..12 {
-            if !mask::within8(masks[k], registers[k]) {
-                return false;
-            }
+            within = within & mask::within8(masks[k], registers[k]);
         }
-        true
+        within
     }
 
     pub fn access(self, offset: u32, access: Access) -> AccessResult

@@ -1,14 +1,13 @@
--- `monitor::Monitor::in_range` returns what `monitorInRange` defines: at turn k of the loop the first k registers are within
--- their masks.
-use Prim.Native.Nat.{ℕ, _-_, _≤_}
+-- `monitor::Monitor::in_range` returns what `monitorInRange` defines: at turn k of the loop `within` says of the first k registers that they
+-- are within their masks.
+use Prim.Native.Nat.{ℕ, _≤_, _-_}
 use mathlib.Core.Path.{_≡_, refl, sym, ap, _∙_}
-use mathlib.Core.Bool.{Bool, true}
+use mathlib.Core.Bool.{Bool}
 use mathlib.Core.List.{List, map}
 use native.Mathlib.Omega.{arith}
 use borrow.Author.Needs.{needs}
-use borrow.Author.Tests.{not-false, not-true}
 use lib.ListN.{getD}
-use Rattle.mask.proofs.Every.{all-false, all-more}
+use Rattle.mask.proofs.Every.{all-next}
 use Rattle.mask.specs.Every.{allBelow}
 use Rattle.mask.specs.Mask.{within}
 use Rattle.monitor.specs.Table.{maskOf, storedIndices}
@@ -19,10 +18,10 @@ abbrev isWithin : List ℕ → List ℕ → ℕ → Bool
 isWithin registers masks k = within (getD masks k 0) (getD registers k 0)
 
 abbrev Inv-loop : tie.InvT-loop
-Inv-loop registers masks k₀ k = (k ≤ 12) × (allBelow k (isWithin registers masks) ≡ true)
+Inv-loop registers masks within₀ k₀ so-far k = (k ≤ 12) × (so-far ≡ allBelow k (isWithin registers masks))
 
 abbrev μ-loop : tie.MeasureT-loop
-μ-loop registers masks k₀ k = 12 - k
+μ-loop registers masks within₀ k₀ so-far k = 12 - k
 
 loop-holds : tie.Need-loop-holds Inv-loop μ-loop
 loop-holds c = (omega arith, refl)
@@ -36,13 +35,6 @@ array-read-within8-2 c = omega arith
 within8-requires : tie.Need-within8-requires Inv-loop μ-loop
 within8-requires c κs = search needs
 
-returns : tie.Need-returns Inv-loop μ-loop
-returns c =
-    let registers = c .before .before .before .before .before .args .self .registers in
-    sym
-    (all-false 12 (isWithin registers (map maskOf storedIndices)) (c .before .before .before .loop .k) (omega arith)
-    (sym (c .before .within8 .ensures) ∙ not-true _ (c .if1 .taken)))
-
 add-k : tie.Need-add-k Inv-loop μ-loop
 add-k c = omega arith
 
@@ -51,18 +43,15 @@ loop-less c = omega arith
 
 loop-again : tie.Need-loop-again Inv-loop μ-loop
 loop-again c =
-    let registers = c .before .before .before .before .before .args .self .registers in (
-      omega arith,
-      all-more (c .before .before .before .loop .k) (isWithin registers (map maskOf storedIndices))
-          (c .before .before .before .loop .inv .1)
-          (sym (c .before .within8 .ensures) ∙ not-false _ (c .if1 .left)),
-    )
+    let l = c .before .before .loop in
+    let p = isWithin (c .before .before .before .before .args .self .registers) (map maskOf storedIndices) in
+    (omega arith, rw (l .inv .1, c .within8 .ensures) (all-next (l .k) p))
 
-returns-2 : tie.Need-returns-2 Inv-loop μ-loop
-returns-2 c =
+returns : tie.Need-returns Inv-loop μ-loop
+returns c =
     let p = isWithin (c .before .before .before .args .self .registers) (map maskOf storedIndices) in
-    let e : 12 ≡ c .before .loop .k = omega arith in
-    sym (ap (λ (n : ℕ). allBelow n p) e ∙ c .before .loop .inv .1)
+    let e : c .before .loop .k ≡ 12 = omega arith in
+    c .before .loop .inv .1 ∙ ap (λ (n : ℕ). allBelow n p) e
 
 pub in-range-spec : {M : Type 1} → statement M
 in-range-spec =
@@ -74,8 +63,7 @@ in-range-spec =
     array-read-within8
     array-read-within8-2
     within8-requires
-    returns
     add-k
     loop-less
     loop-again
-    returns-2)
+    returns)
