@@ -167,7 +167,11 @@ impl Device {
     pub fn event_refusal(self, number: u32) -> u32
         ensures { λ r. ⌜ r ≡ eventRefusal self number ⌝ }
     {
-        call_refusal(self.in_range(), crate::event::is_event(number), outcome::BAD_EVENT)
+        call_refusal(
+            self.in_range(),
+            crate::event::is_event(number),
+            outcome::BAD_EVENT,
+        )
     }
 
     pub fn single_event(self, number: u32) -> SingleEvent

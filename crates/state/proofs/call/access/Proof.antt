@@ -58,10 +58,9 @@ returns-3 : tie.Need-returns-3
 returns-3 c = let h = sym (c .before .before .before .before .before .before .before .before .before .before .before .before .before .before .holds-device .ensures) ∙ not-false (c .before .before .before .before .before .before .before .before .before .before .before .before .before .before .holds-device .result) (c .before .before .before .before .before .before .before .before .before .before .before .before .before .if1 .left) in
     let d = c .before .before .before .before .before .before .before .before .before .before .before .read-from .ensures in
     let e = sym (rw d at (c .before .before .before .before .before .before .before .before .before .before .access-refusal .ensures)) ∙ c .before .before .before .before .before .before .before .before .before .if2 .left in
-    let p = access-made (c .before .before .before .before .before .before .before .before .before .before .before .before .before .before .before .before .before .args .bytes .now) (c .before .before .before .before .before .before .before .before .before .before .before .before .before .before .before .before .before .args .access) h e in
-    (
+    let p = access-made (c .before .before .before .before .before .before .before .before .before .before .before .before .before .before .before .before .before .args .bytes .now) (c .before .before .before .before .before .before .before .before .before .before .before .before .before .before .before .before .before .args .access) h e in (
       rw (c .done .ensures, c .before .before .before .before .before .outputs .ensures, c .before .before .before .before .before .before .before .before .access .ensures, d) (p .0),
-      rw (c .before .before .before .save .ensures .1, c .before .before .before .before .before .before .before .before .access .ensures, d) (p .1)
+      rw (c .before .before .before .save .ensures .1, c .before .before .before .before .before .before .before .before .access .ensures, d) (p .1),
     )
 
 pub access-spec : {M : Type 1} → statement M

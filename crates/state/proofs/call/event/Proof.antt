@@ -58,10 +58,9 @@ returns-3 : tie.Need-returns-3
 returns-3 c = let h = sym (c .before .before .before .before .before .before .before .before .before .before .before .before .holds-device .ensures) ∙ not-false (c .before .before .before .before .before .before .before .before .before .before .before .before .holds-device .result) (c .before .before .before .before .before .before .before .before .before .before .before .if1 .left) in
     let d = c .before .before .before .before .before .before .before .before .before .read-from .ensures in
     let e = sym (rw d at (c .before .before .before .before .before .before .before .before .event-refusal .ensures)) ∙ c .before .before .before .before .before .before .before .if2 .left in
-    let p = event-made (c .before .before .before .before .before .before .before .before .before .before .before .before .before .before .before .args .bytes .now) (c .before .before .before .before .before .before .before .before .before .before .before .before .before .before .before .args .number) h e in
-    (
+    let p = event-made (c .before .before .before .before .before .before .before .before .before .before .before .before .before .before .before .args .bytes .now) (c .before .before .before .before .before .before .before .before .before .before .before .before .before .before .before .args .number) h e in (
       rw (c .done .ensures, c .before .before .before .before .before .outputs .ensures, c .before .before .before .before .before .before .apply-event .ensures, d) (p .0),
-      rw (c .before .before .before .save .ensures .1, c .before .before .before .before .before .before .apply-event .ensures, d) (p .1)
+      rw (c .before .before .before .save .ensures .1, c .before .before .before .before .before .before .apply-event .ensures, d) (p .1),
     )
 
 pub event-spec : {M : Type 1} → statement M
