@@ -140,8 +140,13 @@ fn their_run(image: &[u8], events: &[u32], budget: u32, log: &mut [u32], times: 
     }
 }
 
+/// Starts at a multiple of 64 bytes, so that a time does not depend on where the process's stack starts.
+#[repr(align(64))]
+struct Aligned<T>(T);
+
 fn our_accesses(start: &state::StateBytes, list: &[Access], times: usize) -> Done {
-    let mut device = runnelopal::Device { state: *start };
+    let mut held = Aligned(runnelopal::Device { state: *start });
+    let device = &mut held.0;
     let mut sum = 0;
     for _ in 0..times {
         for access in black_box(list) {
@@ -171,20 +176,22 @@ fn their_access(device: &mut Device, access: &Access) -> u64 {
 #[inline(always)]
 fn each<T>(start: &state::StateBytes, list: &[T], times: usize, held: Held, with: impl Fn(&mut Device, &T) -> u64) -> Done {
     let mut sum = 0;
-    let mut bytes = *start;
-    let mut device = state::decode(&bytes).expect("the state is valid");
+    let mut held_bytes = Aligned(*start);
+    let bytes = &mut held_bytes.0;
+    let mut held_device = Aligned(state::decode(bytes).expect("the state is valid"));
+    let device = &mut held_device.0;
     for _ in 0..times {
         for item in black_box(list) {
             if held == Held::Struct {
-                sum = added(sum, with(&mut device, item));
+                sum = added(sum, with(device, item));
             } else {
-                let mut loaded = state::decode(black_box(&bytes)).expect("the state is valid");
+                let mut loaded = state::decode(black_box(&*bytes)).expect("the state is valid");
                 sum = added(sum, with(&mut loaded, item));
-                bytes = state::encode(&loaded);
+                *bytes = state::encode(&loaded);
             }
         }
     }
-    let state = if held == Held::Struct { state::encode(&device) } else { bytes };
+    let state = if held == Held::Struct { state::encode(device) } else { *bytes };
     Done { numbers: [0; 5], sum, state: Some(state) }
 }
 
@@ -193,7 +200,8 @@ fn their_accesses(start: &state::StateBytes, list: &[Access], times: usize, held
 }
 
 fn our_events(start: &state::StateBytes, list: &[u32], times: usize) -> Done {
-    let mut device = runnelopal::Device { state: *start };
+    let mut held = Aligned(runnelopal::Device { state: *start });
+    let device = &mut held.0;
     let mut sum = 0;
     for _ in 0..times {
         for number in black_box(list) {
