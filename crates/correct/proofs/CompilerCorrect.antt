@@ -1,11 +1,12 @@
--- The proof of the top theorem. The run comes from `whole-run`, the nested form of the records from `reading-flat`, and the
--- refusals from `refuses-not` and `accepts-all`.
+-- The proof of the top theorem. The run comes from `whole-run`, the nested form of the records from `reading-flat` and `one-body`, and
+-- the refusals from `refuses-not` and `accepts-all`.
 use mathlib.Core.Path.{refl, ap, _∙_}
 use lib.ListN.{length}
 use Rattle.compiler.proofs.Compiling.{accepts-all, refuses-not}
 use Rattle.compiler.proofs.Refused.{refused-exactly}
 use Rattle.script.proofs.Flat.{accepts, reading-flat}
 use Rattle.script.proofs.Grammar.{legal-accepted, legal-script}
+use Rattle.script.proofs.OneBody.{one-body}
 use Rattle.script.specs.Nested.{scriptBody}
 use Rattle.script.specs.Records.{recordsOf}
 use Rattle.semantics.proofs.Events.{one-event-each}
@@ -32,9 +33,11 @@ compiler-correct = record {
         sameLogged = rw (n, e);
         sameDevice = rw (n, e);
         sameEventsLeft = rw (n, e) (events-left events (own .world .events) (length (own .world .accesses)) (one-event-each script d events));
+        sameTaken = rw (n, e);
         sameSteps = rw (n, e);
       };
   sameRecords = λ script h. reading-flat (recordsOf script) (accepts script h .faultless);
+  oneReading = one-body;
   acceptedExactly = λ script buffer. (
     λ h.
         let r = refuses-not script buffer h in

@@ -12,7 +12,7 @@ use Rattle.compiler.specs.Refused.{Accepts, RefusedExactly}
 use Rattle.device.specs.Device.{deviceInRange}
 use Rattle.device.specs.declared.Device.{Device}
 use Rattle.record.specs.Record.{recordSize}
-use Rattle.script.specs.Nested.{flat, scriptBody}
+use Rattle.script.specs.Nested.{Body, flat, scriptBody}
 use Rattle.script.specs.Records.{recordsOf}
 use Rattle.script.specs.Refusals.{scriptRefusal}
 use Rattle.semantics.specs.OwnRun.{Run, scriptRun}
@@ -40,6 +40,7 @@ pub record SameRun (own : Run) (answer : RunResult) (image : RunEnd) (words : �
   pub sameLogged : answer .logged ≡ length (own .world .logged)
   pub sameDevice : answer .device ≡ own .world .device
   pub sameEventsLeft : drop (answer .taken) events ≡ own .world .events
+  pub sameTaken : answer .taken ≡ length events - length (own .world .events)
   pub sameSteps : answer .steps ≡ own .steps
 
 -- the top theorem
@@ -55,6 +56,8 @@ pub record CompilerCorrect : Type 0 where
   -- the nested form of an accepted script has all its records, in order
   pub sameRecords :
       (script : List ℕ) → scriptRefusal script .number ≡ 0 → recordsOf script ≡ flat (scriptBody script) []
+  -- and no other nested form has the same records
+  pub oneReading : (a b : Body) → flat a [] ≡ flat b [] → a ≡ b
   -- the compiler accepts exactly the legal scripts whose words fit into the buffer
   pub acceptedExactly :
       (script buffer : List ℕ) → (compileResult script buffer .refusal ≡ 0) ↔ Accepts script buffer
