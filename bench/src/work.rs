@@ -140,7 +140,7 @@ fn their_run(image: &[u8], events: &[u32], budget: u32, log: &mut [u32], times: 
     }
 }
 
-/// Starts at a multiple of 64 bytes, so that a time does not depend on where the process's stack starts.
+/// Starts at a multiple of 64 bytes, so that a time depends less on where the stack of the process starts.
 #[repr(align(64))]
 struct Aligned<T>(T);
 

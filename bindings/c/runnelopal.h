@@ -42,7 +42,7 @@ extern "C" {
 #define RUNNELOPAL_TOO_MANY_WORDS 8   /* the image would have more than 1,024 words */
 #define RUNNELOPAL_BUFFER_TOO_SHORT 9 /* the image buffer is too short */
 #define RUNNELOPAL_BAD_IMAGE 10       /* the image is empty, not a multiple of 12 bytes, or has more than 1,024 words; place 0 */
-#define RUNNELOPAL_BAD_STATE 11       /* the saved device is out of range, or not RUNNELOPAL_STATE bytes long; place 0 */
+#define RUNNELOPAL_BAD_STATE 11       /* the bytes are not RUNNELOPAL_STATE long, hold no device, or hold one that is out of range; place 0 */
 #define RUNNELOPAL_BAD_EVENT 12       /* not an event; in a run, the place is its index, or 4096 if there are more than 4,096 events */
 
 /* How a run ended. 20 to 24 are faults: the word at fault is not executed, and takes no event. */

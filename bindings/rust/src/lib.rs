@@ -35,7 +35,7 @@ pub mod refusal {
     pub const BUFFER_TOO_SHORT: u32 = 9;
     /// The image is empty, not a multiple of 12 bytes, or has more than 1,024 words. The place is 0.
     pub const BAD_IMAGE: u32 = 10;
-    /// The saved device is out of range. The place is 0.
+    /// The bytes hold no device, or one that is out of range. The place is 0.
     pub const BAD_STATE: u32 = 11;
     /// Not an event. In a run the place is its index, or 4096 if there are more than 4,096 events.
     pub const BAD_EVENT: u32 = 12;

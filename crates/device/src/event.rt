@@ -19,34 +19,30 @@ pub const RESET: u32 = 6;
 // A reset goes to every block. This is not the number of a block.
 const EVERY_BLOCK: u32 = 255;
 
-// The block that takes events of this kind, or `NOBODY` for an unknown kind.
-fn event_block(kind: u32) -> u32
-    ensures { λ r. ⌜ r ≡ eventBlock kind ⌝ }
-{
-    match kind {
-        Acpi::TICKS => Device::ACPI,
-        Acpi::PIN => Device::ACPI,
-        Acpi::RTC_ALARM => Device::ACPI,
-        Acpi::BUS_MASTER => Device::ACPI,
-        Monitor::SENSOR => Device::MONITOR,
-        RESET => EVERY_BLOCK,
-        Acpi::BUTTON => Device::ACPI,
-        _ => Device::NOBODY,
-    }
+// A row of the table of kinds: the block that takes the event, or `NOBODY` for an unknown kind, and the greatest operand.
+struct KindRow {
+    block: u32,
+    greatest: u32,
 }
 
-fn greatest_operand(kind: u32) -> u32
-    ensures { λ r. ⌜ r ≡ greatestOperand kind ⌝ }
+fn row(block: u32, greatest: u32) -> KindRow
+    ensures { λ r. ⌜ (r .block ≡ block) × (r .greatest ≡ greatest) ⌝ }
+{
+    KindRow { block, greatest }
+}
+
+fn kind_row(kind: u32) -> KindRow
+    ensures { λ r. ⌜ (r .block ≡ eventBlock kind) × (r .greatest ≡ greatestOperand kind) ⌝ }
 {
     match kind {
-        Acpi::TICKS => MOST_TICKS,
-        Acpi::PIN => 15,
-        Acpi::RTC_ALARM => 0,
-        Acpi::BUS_MASTER => 0,
-        Monitor::SENSOR => 3,
-        RESET => 3,
-        Acpi::BUTTON => 0,
-        _ => 0,
+        Acpi::TICKS => row(Device::ACPI, MOST_TICKS),
+        Acpi::PIN => row(Device::ACPI, 15),
+        Acpi::RTC_ALARM => row(Device::ACPI, 0),
+        Acpi::BUS_MASTER => row(Device::ACPI, 0),
+        Monitor::SENSOR => row(Device::MONITOR, 3),
+        RESET => row(EVERY_BLOCK, 3),
+        Acpi::BUTTON => row(Device::ACPI, 0),
+        _ => row(Device::NOBODY, 0),
     }
 }
 
@@ -62,11 +58,11 @@ pub fn tick_event(ticks: u32) -> u32
 pub fn is_event(number: u32) -> bool
     ensures { λ r. ⌜ r ≡ isEvent number ⌝ }
 {
-    let kind = number / KIND_UNIT;
-    if event_block(kind) == Device::NOBODY {
+    let row = kind_row(number / KIND_UNIT);
+    if row.block == Device::NOBODY {
         return false;
     }
-    number % KIND_UNIT <= greatest_operand(kind)
+    number % KIND_UNIT <= row.greatest
 }
 
 impl Device {
@@ -76,7 +72,8 @@ impl Device {
     {
         let kind = number / KIND_UNIT;
         let operand = number % KIND_UNIT;
-        let block = event_block(kind);
+        let row = kind_row(kind);
+        let block = row.block;
         match block {
             Device::ACPI => {
                 let acpi = self.acpi.event(kind, operand);

@@ -1,5 +1,5 @@
 // Single calls: one access or one event on any device, valid or not, with any numbers. A refusal returns the device unchanged.
-// `replay` calls them, and `state` makes the same calls on saved bytes. See docs/CHIP.md, "Single calls".
+// `replay` calls them. `state` has the same two calls on saved bytes. See docs/CHIP.md, "Single calls".
 use access::Access;
 use access::Answer;
 ghost use mathlib.Core.Path.{_≡_};

@@ -113,10 +113,11 @@ fn load(device: Device, line: &[u8]) -> Device {
         return unread(device);
     }
     let loaded = load_bytes(&bytes);
-    if loaded.refusal == 0 {
+    let refusal = loaded.refusal();
+    if refusal.number == 0 {
         answer::loaded();
     } else {
-        answer::refused(loaded.refusal, loaded.place);
+        answer::refused(refusal.number, refusal.place);
     }
     loaded.device_or(device)
 }

@@ -1,4 +1,5 @@
--- What the exported functions return, and what they leave in the saved state and in the slice `answer`. See bindings/c/runnelopal.h.
+-- The numbers that the exported functions put into the slice `answer`, and the run on a fresh device. What an access or an event returns
+-- and leaves in the saved state is in `state/specs/Call.antt`. See bindings/c/runnelopal.h.
 use Prim.Native.Nat.{ℕ, suc}
 use mathlib.Core.Bool.{Bool, cond}
 use mathlib.Core.List.{List, [], _∷_}

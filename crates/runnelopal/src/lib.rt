@@ -16,7 +16,7 @@ ghost use Rattle.device.specs.Device.{freshDevice};
 ghost use Rattle.sequencer.specs.Run.{logAfter};
 ghost use Rattle.step.specs.Sequencer.{freshSequencer};
 ghost use Rattle.little_endian.specs.Bytes.{flagByte};
-ghost use Rattle.state.specs.Call.{savedAccess, afterAccess, savedEvent, afterEvent};
+ghost use Rattle.state.specs.Call.{savedAccess, bytesAfterAccess, savedEvent, bytesAfterEvent};
 ghost use Rattle.state.specs.State.{saved, saveRefusal};
 ghost use Rattle.runnelopal.specs.Calls.{
   numbered,
@@ -153,7 +153,7 @@ pub extern "C" fn runnelopal_access(
     answer: &mut [u64],
 ) -> u32
     ensures { λ r. ⌜ r ≡ savedAccess (now (state .entry)) (accessOf write width port value) .refusal ⌝ }
-    ensures { λ _. ⌜ now (state .exit) ≡ afterAccess (now (state .entry)) (accessOf write width port value) ⌝ }
+    ensures { λ _. ⌜ now (state .exit) ≡ bytesAfterAccess (now (state .entry)) (accessOf write width port value) ⌝ }
     ensures { λ _. ⌜ now (answer .exit) ≡ numbered 0 (accessNumbers (savedAccess (now (state .entry)) (accessOf write width port value))) (now (answer .entry)) ⌝ }
 {
     let access = Access {
@@ -171,7 +171,7 @@ pub extern "C" fn runnelopal_access(
 #[no_mangle]
 pub extern "C" fn runnelopal_event(state: &mut [u8], number: u32, answer: &mut [u64]) -> u32
     ensures { λ r. ⌜ r ≡ savedEvent (now (state .entry)) number .refusal ⌝ }
-    ensures { λ _. ⌜ now (state .exit) ≡ afterEvent (now (state .entry)) number ⌝ }
+    ensures { λ _. ⌜ now (state .exit) ≡ bytesAfterEvent (now (state .entry)) number ⌝ }
     ensures { λ _. ⌜ now (answer .exit) ≡ numbered 0 (eventNumbers (savedEvent (now (state .entry)) number)) (now (answer .entry)) ⌝ }
 {
     let r = state::call::event(state, number);

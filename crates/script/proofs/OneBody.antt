@@ -29,7 +29,7 @@ use Rattle.script.specs.Nested.{
   flat,
 }
 
--- what is read from the records of a body and of what follows it, which is read as n
+-- the reading of the records of a body and of those that follow, if those that follow are read as n
 abbrev before : Body → Reading → Reading
 before done n = n
 before (write p w v rest) n = prepend (write p w v) (before rest n)
@@ -53,7 +53,7 @@ reading-flat-before (ifElse p w m b c rest) tl =
       reading-flat-before rest tl,
     )
 
--- a body before the place where its level is closed is the whole body of that level
+-- if nothing of the body's level follows before the level is closed, the body is all that is read on that level
 closed : (b : Body) (close : Body → Reading) → ((f : Body → Body) (c : Body) → prepend f (close c) ≡ close (f c))
     → before b (close done) ≡ close b
 closed done close h = refl

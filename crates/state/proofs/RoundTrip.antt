@@ -17,6 +17,7 @@ use Rattle.key.specs.Saved.{keyBytes, keyFrom, keySize}
 use Rattle.lists.proofs.Tests.{all-hold, all-held}
 use Rattle.monitor.proofs.Saved as of-monitor
 use Rattle.monitor.specs.Saved.{monitorBytes, monitorFrom, monitorSaved, monitorSize}
+use Rattle.outcome.specs.Refusal.{refusal}
 use Rattle.state.proofs.Parts.{cut, front-part, later-part, part-bytes, part-length, whole-part}
 use Rattle.state.specs.State.{
   acpiStart,
@@ -109,11 +110,11 @@ module _ (d : Device) where
       )
 
   -- the same for `load`, which also checks the length
-  pub load-back : Typed d → loaded (stateBytes d) ≡ record { refusal = 0; place = 0; device = d }
+  pub load-back : Typed d → loaded (stateBytes d) ≡ record { refusal = refusal 0 0; device = d }
   unfolding loaded holdsDevice
   load-back t =
       rw (eq-eqb (length (stateBytes d)) stateSize state-length, state-saved)
-      (ap {B = LoadResult} (λ (e : Device). record { refusal = 0; place = 0; device = e }) (device-back t))
+      (ap {B = LoadResult} (λ (e : Device). record { refusal = refusal 0 0; device = e }) (device-back t))
 
 -- ---- loaded, then saved
 four-equal : {a b c d a′ b′ c′ d′ : List ℕ} → a ≡ a′ → b ≡ b′ → c ≡ c′ → d ≡ d′

@@ -9,9 +9,12 @@ use lib.ListN.{drop, drop-of-length-le, length}
 use lib.Seq.{paste, take-length}
 use borrow.Author.Tests.{eq-eqb, eqb-true, ne-eqb}
 use native.Mathlib.Omega.{arith}
+use Rattle.device.specs.Device.{freshDevice}
 use Rattle.device.specs.declared.Device.{Device}
+use Rattle.outcome.specs.Number as number
+use Rattle.outcome.specs.Refusal.{refusal}
 use Rattle.state.proofs.RoundTrip.{state-length}
-use Rattle.state.specs.State.{holdsDevice, isSaved, saved, stateBytes, stateSize}
+use Rattle.state.specs.State.{deviceFrom, deviceOr, holdsDevice, isSaved, loaded, saved, stateBytes, stateSize}
 
 -- pasting a list of the same length at index 0 replaces the whole list
 pub whole : (lent part : List ℕ) → length part ≡ length lent → paste lent 0 part (length part) ≡ part
@@ -47,3 +50,14 @@ holds-length bytes h = pick (eqb (length bytes) stateSize) refl h
     pick : (a : Bool) → eqb (length bytes) stateSize ≡ a → cond a (isSaved bytes) false ≡ true → length bytes ≡ stateSize
     pick true e s = eqb-true (length bytes) stateSize e
     pick false e s = absurd (false≢true s)
+
+-- what a caller of `load` gets: the device that the bytes hold, or the device that the caller names
+pub loaded-or : (bytes : List ℕ) (otherwise : Device) → deviceOr (loaded bytes) otherwise ≡ cond (holdsDevice bytes) (deviceFrom bytes) otherwise
+unfolding loaded
+loaded-or bytes otherwise = pick (holdsDevice bytes)
+  where
+    pick : (h : Bool)
+        → deviceOr (cond h (record { refusal = refusal 0 0; device = deviceFrom bytes }) (record { refusal = refusal number.badState 0; device = freshDevice })) otherwise
+        ≡ cond h (deviceFrom bytes) otherwise
+    pick true = refl
+    pick false = refl

@@ -15,13 +15,13 @@ unfoldable pub savedAccess : List ℕ → Access → AccessReply
 savedAccess bytes x = cond (holdsDevice bytes) (singleAccess (deviceFrom bytes) x .reply) (accessRefused number.badState)
 
 -- the bytes after the call; a refusal leaves them unchanged
-unfoldable pub afterAccess : List ℕ → Access → List ℕ
-afterAccess bytes x =
+unfoldable pub bytesAfterAccess : List ℕ → Access → List ℕ
+bytesAfterAccess bytes x =
     cond (eqb (savedAccess bytes x .refusal) 0) (stateBytes (singleAccess (deviceFrom bytes) x .device)) bytes
 
 unfoldable pub savedEvent : List ℕ → ℕ → EventReply
 savedEvent bytes n = cond (holdsDevice bytes) (singleEvent (deviceFrom bytes) n .reply) (eventRefused number.badState)
 
-unfoldable pub afterEvent : List ℕ → ℕ → List ℕ
-afterEvent bytes n =
+unfoldable pub bytesAfterEvent : List ℕ → ℕ → List ℕ
+bytesAfterEvent bytes n =
     cond (eqb (savedEvent bytes n .refusal) 0) (stateBytes (singleEvent (deviceFrom bytes) n .device)) bytes

@@ -66,13 +66,13 @@ saveRefusal bytes = cond (eqb (length bytes) stateSize) (refusal 0 0) (refusal n
 unfoldable pub holdsDevice : List ℕ → Bool
 holdsDevice bytes = cond (eqb (length bytes) stateSize) (isSaved bytes) false
 
--- after a refusal nobody can read the device
+-- after a refusal the device is one that no caller can get, because the fields are private
 unfoldable pub loaded : List ℕ → LoadResult
 loaded bytes =
     cond (holdsDevice bytes)
-    (record { refusal = 0; place = 0; device = deviceFrom bytes })
-    (record { refusal = number.badState; place = 0; device = freshDevice })
+    (record { refusal = refusal 0 0; device = deviceFrom bytes })
+    (record { refusal = refusal number.badState 0; device = freshDevice })
 
 -- the loaded device, or another one after a refusal
 abbrev pub deviceOr : LoadResult → Device → Device
-deviceOr l otherwise = cond (eqb (l .refusal) 0) (l .device) otherwise
+deviceOr l otherwise = cond (eqb (l .refusal .number) 0) (l .device) otherwise

@@ -32,20 +32,27 @@ const ACPI_START: usize = MONITOR_START + Monitor::SIZE;
 
 pub const SIZE: usize = ACPI_START + Acpi::SIZE;
 
-// What `load` returns: refusal 0, or refusal 11 and place 0. The device is private, so that a caller gets it from `device_or` only, and has to
-// name the device that stays in use after a refusal.
+// What `load` returns. Both fields are private: a caller gets a device from `device_or` only, and has to name the device that stays in use
+// after a refusal.
 pub struct LoadResult {
-    pub refusal: u32,
-    pub place: u32,
+    refusal: Refusal,
     device: Device,
 }
 
 impl LoadResult {
+    // Number 0, or 11 at place 0.
+    pub fn refusal(self) -> Refusal
+        ensures { λ r. ⌜ r ≡ self .refusal ⌝ }
+    {
+        self.refusal
+    }
+
     // The loaded device, or `otherwise` after a refusal.
     pub fn device_or(self, otherwise: Device) -> Device
         ensures { λ r. ⌜ r ≡ deviceOr self otherwise ⌝ }
     {
-        if self.refusal == 0 {
+        let refusal = self.refusal;
+        if refusal.number == 0 {
             return self.device;
         }
         otherwise
@@ -134,14 +141,18 @@ pub fn load(bytes: &[u8]) -> LoadResult
 {
     if holds_device(bytes) {
         return LoadResult {
-            refusal: 0,
-            place: 0,
+            refusal: Refusal {
+                number: 0,
+                place: 0,
+            },
             device: read_from(bytes),
         };
     }
     LoadResult {
-        refusal: outcome::BAD_STATE,
-        place: 0,
+        refusal: Refusal {
+            number: outcome::BAD_STATE,
+            place: 0,
+        },
         device: Device::fresh(),
     }
 }

@@ -1,6 +1,6 @@
 -- `acpi::maps_in_range` returns true exactly if all maps are legal: at turn k of the loop `legal` says so of the first k maps.
 use Prim.Native.Nat.{_≤_, _-_}
-use mathlib.Core.Path.{_≡_, refl, sym, _∙_}
+use mathlib.Core.Path.{_≡_, refl}
 use native.Mathlib.Omega.{arith}
 use borrow.Author.Needs.{needs}
 use Rattle.mask.proofs.Every.{all-next}

@@ -1,4 +1,4 @@
--- `runnelopal_access` returns, saves and puts into `answer` what `call::access` replies.
+-- `runnelopal_access` returns the refusal of `call::access`, which changes the bytes, and puts the numbers of its reply into `answer`.
 use mathlib.Core.Path.{ap, _∙_}
 use Rattle.device.specs.declared.single.AccessReply.{AccessReply}
 use borrow.Author.Needs.{needs}

@@ -1,4 +1,4 @@
--- `runnelopal_event` returns, saves and puts into `answer` what `call::event` replies.
+-- `runnelopal_event` returns the refusal of `call::event`, which changes the bytes, and puts the numbers of its reply into `answer`.
 use mathlib.Core.Path.{ap, _∙_}
 use Rattle.device.specs.declared.single.EventReply.{EventReply}
 use borrow.Author.Needs.{needs}

@@ -33,8 +33,8 @@ module _ (d : Device) (number : ℕ) where
   unfolding applyEvent eventEffect
   by-nobody a m r = rw (ne-eqb _ acpi a, ne-eqb _ monitor m, ne-eqb _ everyBlock r)
 
-event-block-requires : tie.Need-event-block-requires
-event-block-requires c κs = search needs
+kind-row-requires : tie.Need-kind-row-requires
+kind-row-requires c κs = search needs
 
 event-requires : tie.Need-event-requires
 event-requires c κs = search needs
@@ -46,7 +46,7 @@ returns : tie.Need-returns
 returns c =
     let e = c .before in
     let m = e .before in
-    c .settle .ensures ∙ ap settleDevice (ap (withAcpi (m .before .before .args .self)) (e .event .ensures)) ∙ by-acpi _ _ (sym (m .before .event-block .ensures) ∙ m .match .keys1)
+    c .settle .ensures ∙ ap settleDevice (ap (withAcpi (m .before .before .args .self)) (e .event .ensures)) ∙ by-acpi _ _ (sym (m .before .kind-row .ensures .0) ∙ m .match .keys1)
 
 event-requires-2 : tie.Need-event-requires-2
 event-requires-2 c κs = search needs
@@ -58,7 +58,7 @@ returns-2 : tie.Need-returns-2
 returns-2 c =
     let e = c .before in
     let m = e .before in
-    c .settle2 .ensures ∙ ap settleDevice (ap (withMonitor (m .before .before .args .self)) (e .event2 .ensures)) ∙ by-monitor _ _ (sym (m .before .event-block .ensures) ∙ m .match .keys2)
+    c .settle2 .ensures ∙ ap settleDevice (ap (withMonitor (m .before .before .args .self)) (e .event2 .ensures)) ∙ by-monitor _ _ (sym (m .before .kind-row .ensures .0) ∙ m .match .keys2)
 
 reset-requires : tie.Need-reset-requires
 reset-requires c κs = search needs
@@ -70,7 +70,7 @@ returns-3 : tie.Need-returns-3
 returns-3 c =
     let e = c .before in
     let m = e .before in
-    c .settle3 .ensures ∙ ap settleDevice (e .reset .ensures) ∙ by-reset _ _ (sym (m .before .event-block .ensures) ∙ m .match .keys3)
+    c .settle3 .ensures ∙ ap settleDevice (e .reset .ensures) ∙ by-reset _ _ (sym (m .before .kind-row .ensures .0) ∙ m .match .keys3)
 
 settle-requires-4 : tie.Need-settle-requires-4
 settle-requires-4 c κs = search needs
@@ -78,7 +78,7 @@ settle-requires-4 c κs = search needs
 returns-4 : tie.Need-returns-4
 returns-4 c =
     let m = c .before in
-    let b = m .before .event-block .ensures in
+    let b = m .before .kind-row .ensures .0 in
     let r = m .match .rest in
     c .settle4 .ensures ∙ by-nobody _ _ (λ e. r .0 .0 .1 (b ∙ e)) (λ e. r .0 .1 (b ∙ e)) (λ e. r .1 (b ∙ e))
 
@@ -86,7 +86,7 @@ pub apply-event-spec : {M : Type 1} → statement M
 apply-event-spec =
     tie.close
     (tie.spec
-    event-block-requires
+    kind-row-requires
     event-requires
     settle-requires
     event-requires-2

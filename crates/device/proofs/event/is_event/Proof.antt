@@ -5,20 +5,16 @@ use borrow.Author.Needs.{needs}
 use Rattle.device.proofs.event.is_event.Statement.{statement}
 use Rattle.device.proofs.event.is_event.Tie as tie
 
-event-block-requires : tie.Need-event-block-requires
-event-block-requires c κs = search needs
+kind-row-requires : tie.Need-kind-row-requires
+kind-row-requires c κs = search needs
 
 returns : tie.Need-returns
 unfolding isEvent
-returns c = simp (← (c .before .event-block .ensures), eq-eqb _ _ (c .if1 .taken))
-
-greatest-operand-requires : tie.Need-greatest-operand-requires
-greatest-operand-requires c κs = search needs
+returns c = simp (← (c .before .before .kind-row .ensures .0), eq-eqb _ _ (c .if1 .taken))
 
 returns-2 : tie.Need-returns-2
 unfolding isEvent
-returns-2 c = simp (← (c .before .before .event-block .ensures), ne-eqb _ _ (c .before .if1 .left), ← (c .greatest-operand .ensures))
+returns-2 c = simp (← (c .before .before .before .kind-row .ensures .0), ne-eqb _ _ (c .before .if1 .left), ← (c .before .before .before .kind-row .ensures .1))
 
 pub is-event-spec : {M : Type 1} → statement M
-is-event-spec =
-    tie.close (tie.spec event-block-requires returns greatest-operand-requires returns-2)
+is-event-spec = tie.close (tie.spec kind-row-requires returns returns-2)

@@ -1,7 +1,7 @@
 -- `monitor::Monitor::in_range` returns what `monitorInRange` defines: at turn k of the loop `within` says of the first k registers that they
 -- are within their masks.
 use Prim.Native.Nat.{ℕ, _≤_, _-_}
-use mathlib.Core.Path.{_≡_, refl, sym, ap, _∙_}
+use mathlib.Core.Path.{_≡_, refl, ap, _∙_}
 use mathlib.Core.Bool.{Bool}
 use mathlib.Core.List.{List, map}
 use native.Mathlib.Omega.{arith}

@@ -1,4 +1,4 @@
--- `call::access` replies `savedAccess` and leaves `afterAccess` in the bytes. proofs/Calls.antt has its three cases.
+-- `call::access` replies `savedAccess` and leaves `bytesAfterAccess` in the bytes. proofs/Calls.antt has its three cases.
 use mathlib.Core.Path.{sym, _∙_}
 use borrow.Author.Tests.{not-false, not-true}
 use Rattle.state.proofs.Calls.{access-made, access-refused, access-unheld}

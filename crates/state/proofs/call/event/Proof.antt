@@ -1,4 +1,4 @@
--- `call::event` replies `savedEvent` and leaves `afterEvent` in the bytes. proofs/Calls.antt has its three cases.
+-- `call::event` replies `savedEvent` and leaves `bytesAfterEvent` in the bytes. proofs/Calls.antt has its three cases.
 use mathlib.Core.Path.{sym, _∙_}
 use borrow.Author.Tests.{not-false, not-true}
 use Rattle.state.proofs.Calls.{event-made, event-refused, event-unheld}
