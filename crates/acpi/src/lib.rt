@@ -27,23 +27,23 @@ ghost use Rattle.acpi.specs.Fields.{raise};
 ghost use Rattle.acpi.specs.Registers.{takes};
 ghost use Rattle.acpi.specs.Settle.{pending, sciOn, smiOn, wake};
 
-// The arrays come first, then the widest field, so that there is no padding between fields. Padding would be copied too.
+// The order of the fields leaves no padding between them, and was chosen for speed. See bench/README.md.
 pub struct Acpi {
     // The map and the level of each pin.
     pub maps: [u16; 8],
     pub levels: [bool; 8],
     pub timer: u32,
+    // The stored bits of PM1a_CNT, and SETUP_IDX.
+    pub pm1cnt: u16,
+    pub setupidx: u16,
     // The CPU state, sleeping and PM1a_STS: the fields that settling changes.
     pub cpu: u8,
     pub sleeping: bool,
     pub pm1sts: u16,
-    // PM1a_EN, GPE0_STS, GPE0_EN, and the stored bits of PM1a_CNT.
+    // PM1a_EN, GPE0_STS, GPE0_EN.
     pub pm1en: u16,
     pub gpe0sts: u16,
     pub gpe0en: u16,
-    pub pm1cnt: u16,
-    // SETUP_IDX.
-    pub setupidx: u16,
     // P_CNT, the IRQ, SCI_EN.
     pub pcnt: u8,
     pub irq: u8,

@@ -17,14 +17,17 @@ ghost use Rattle.config.specs.Config.{
   configAccess,
 };
 
+// The order of the fields was chosen for speed. See bench/README.md.
 pub struct Config {
-    pub unlocked: bool,
-    pub index: u8,
-    // The device number, and then the registers of device 0Ah. The bases are stored as written, without their masks.
-    pub number: u8,
-    pub activate: u8,
+    // The bases are stored as written, without their masks.
     pub runtime_base: u16,
     pub key_base: u16,
+    pub activate: u8,
+    pub index: u8,
+    pub unlocked: bool,
+    // The device number.
+    pub number: u8,
+    // Key control.
     pub control: u8,
 }
 
