@@ -100,7 +100,7 @@ fn load_bytes(bytes: &[u8; state::SIZE]) -> LoadResult {
     state::load(bytes)
 }
 
-// L bytes. After a refusal the session keeps its device.
+// L bytes. After a refusal the device stays as it was.
 fn load(device: Device, line: &[u8]) -> Device {
     let mut bytes = [0u8; state::SIZE];
     if !digits::is_space(line, 1) {
