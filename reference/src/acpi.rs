@@ -26,6 +26,7 @@ const IRQ_RESET: u8 = 9;
 const IRQ_LAST: u32 = 15;
 
 const TIMER_COUNTS: u32 = 1 << 24;
+const TIMER_BIT_23: u32 = 1 << 23;
 
 const MAP_DIRECTION_FALL: u16 = 1 << 8;
 
@@ -227,13 +228,19 @@ impl Acpi {
         Ok(())
     }
 
-    /// Event 1, ticks. TMR_STS is set only when the timer passes from FFFFFFh to 0.
+    /// Event 1, ticks. TMR_STS is set whenever bit 23 of the timer changes state: from 7FFFFFh to
+    /// 800000h, and from FFFFFFh to 0 (document 02, request L2; source document 002, section 4.1.1).
+    ///
+    /// From one change to the next there are 800000h ticks, and an event has at most 65,535. So bit
+    /// 23 changes at most once in an event, and it has changed exactly if its state after the event
+    /// differs from its state before.
     pub fn tick(&mut self, ticks: u16) {
-        let count = self.timer + u32::from(ticks);
-        if count >= TIMER_COUNTS {
+        let bit_23_before = self.timer & TIMER_BIT_23;
+        self.timer = (self.timer + u32::from(ticks)) % TIMER_COUNTS;
+        let bit_23_after = self.timer & TIMER_BIT_23;
+        if bit_23_after != bit_23_before {
             self.pm1_status |= TMR_STS;
         }
-        self.timer = count % TIMER_COUNTS;
     }
 
     /// Event 2, after the level of the pin has changed: a change in the mapped direction sets the

@@ -42,6 +42,7 @@ const ACPI_REGISTERS: [(u32, u32); 12] = [
     (TIMER, 4),
 ];
 
+const TMR_STS: u32 = 1 << 0;
 const SLEEP: u32 = 1 << 13;
 
 const CONFIGURATION_REGISTERS: [u32; 7] = [0x07, 0x30, 0x60, 0x61, 0x62, 0x63, 0xF2];
@@ -102,10 +103,19 @@ const IRQS: [u32; 16] = [
 /// Single bits of the mask of PM1a_EN, and sometimes none.
 const PM1_ENABLES: [u32; 7] = [0, 0x001, 0x020, 0x100, 0x200, 0x400, 0x721];
 
-const TIMERS: [u32; 14] = [
-    0xFF_FFFF, 0xFF_FFFF, 0xFF_FFFE, 0xFF_0000, 0xFF_0001, 0xFE_FFFF, 0x7F_FFFF, 0x7F_FFFF,
-    0x7F_FFFE, 0x80_0000, 0x7F_0001, 0xFF_FF00, 0, 1,
+/// Timers before and after each of the two changes of bit 23, and before the two places where only
+/// bit 22 and those below it change.
+const TIMERS: [u32; 24] = [
+    0x7E_FFFF, 0x7F_0000, 0x7F_0001, 0x7F_C000, 0x7F_FF00, 0x7F_FFFE, 0x7F_FFFE, 0x7F_FFFF,
+    0x7F_FFFF, 0x80_0000, 0x80_0001, 0xFE_FFFF, 0xFF_0000, 0xFF_0001, 0xFF_C000, 0xFF_FF00,
+    0xFF_FFFE, 0xFF_FFFE, 0xFF_FFFF, 0xFF_FFFF, 0, 1, 0x3F_FFFF, 0xBF_FFFF,
 ];
+
+/// The number of ticks to the next change of bit 23 of the timer: 1 to 800000h.
+pub fn ticks_to_change(timer: u32) -> u32 {
+    let half = 1 << 23;
+    half - timer % half
+}
 
 /// Writes exactly this many commands. Sometimes the last line has no line feed.
 pub fn write_commands(
@@ -167,7 +177,7 @@ const SCENARIOS: [(u32, Scenario); 27] = [
     (18, Generator::poke_acpi_anywhere),
     (9, Generator::drive_setup),
     (8, Generator::drive_sleep),
-    (7, Generator::drive_timer),
+    (18, Generator::drive_timer),
     (8, Generator::drive_pins),
     (8, Generator::drive_cpu_state),
     (14, Generator::outside_event),
@@ -646,6 +656,9 @@ impl Generator {
     fn raise_pm1(&mut self, bit: u32) {
         match bit {
             0x001 => {
+                if self.random.one_in(2) {
+                    self.load_timer();
+                }
                 let ticks = self.ticks();
                 self.event(1, ticks);
             }
@@ -742,26 +755,39 @@ impl Generator {
         }
     }
 
-    /// Loads a timer near 0 or near its wrap, then applies ticks.
+    /// Loads the present state with another timer, mostly near a change of bit 23, and mostly with
+    /// TMR_STS clear.
+    pub fn load_timer(&mut self) {
+        let mut device = self.device().clone();
+        device.acpi.timer = self.random.pick(&TIMERS);
+        if !self.random.one_in(4) {
+            device.acpi.pm1_status &= !(TMR_STS as u16);
+        }
+        self.load(&state::encode(&device));
+    }
+
+    /// Loads a timer, then applies ticks. TMR_STS is often shown and cleared between two events, so
+    /// that the answers tell which event set it.
     fn drive_timer(&mut self) {
-        let mut bytes = state::encode(self.device());
-        let timer = self.random.pick(&TIMERS);
-        put(&mut bytes, state::TIMER, 4, timer);
-        self.load(&bytes);
-        if self.random.one_in(3) {
-            let enable = self.random.pick(&[0x001, 0x721, 0x000]);
+        self.load_timer();
+        if !self.random.one_in(3) {
+            let enable = self.random.pick(&[0x001, 0x001, 0x721, 0x000]);
             self.acpi_write(PM1_ENABLE, enable);
         }
         if self.random.one_in(3) {
-            self.acpi_write(PM1_STATUS, 1);
+            self.acpi_write(PM1_CONTROL, SLEEP);
         }
         if self.random.one_in(5) {
             let value = self.random.bits(32);
             self.acpi_write(TIMER, value);
         }
-        for _ in 0..=self.random.below(2) {
+        for left in (0..=self.random.below(3)).rev() {
             let ticks = self.ticks();
             self.event(1, ticks);
+            if left > 0 && self.random.one_in(2) {
+                self.read(2, ACPI_PORT + PM1_STATUS);
+                self.acpi_write(PM1_STATUS, TMR_STS);
+            }
         }
         self.read(4, ACPI_PORT + TIMER);
         if self.random.one_in(2) {
@@ -769,14 +795,11 @@ impl Generator {
         }
     }
 
-    /// Ticks that often end at, just after or just before the next wrap, or half of it.
+    /// Ticks that often end at, just after or just before the next change of bit 23.
     fn ticks(&mut self) -> u32 {
-        let timer = self.device().acpi.timer;
-        let to_end = (1u32 << 24).saturating_sub(timer);
-        let to_half = (1u32 << 23).saturating_sub(timer);
-        let aimed = self.random.pick(&[to_end, to_end, to_half]);
-        match (self.random.below(6), aimed) {
-            (0..=2, 1..=0xFFFE) => aimed - 1 + self.random.below(3),
+        let to_change = ticks_to_change(self.device().acpi.timer);
+        match (self.random.below(6), to_change) {
+            (0..=2, 1..=0xFFFE) => to_change - 1 + self.random.below(3),
             (3, _) => self.random.below(0x1_0000),
             _ => self
                 .random

@@ -17,6 +17,7 @@ pub const IMAGES: Source = Source {
         (100, Generator::run_image),
         (3, Generator::make_fresh),
         (6, Generator::load_good),
+        (24, Generator::load_timer),
         (4, Generator::run_on_broken_device),
         (3, Generator::run_script),
         (2, Generator::set_sequencer),
@@ -206,7 +207,7 @@ impl Generator {
         word.mark = WORD_MARK;
         word.kind = kind;
         match kind {
-            DELAY => word.value = self.random.pick(&[0, 1, 2, 65_535]),
+            DELAY => word.value = self.programs().ticks(),
             ENTER => word.value = self.random.pick(&[0, 1, 1, 2, 2, 3, 5, 65_535]),
             _ => {}
         }

@@ -4,6 +4,7 @@ use crate::compiler::{
     Record, BLOCK_LIMIT, DELAY, ELSE, END, IF, READ, REPEAT, REPEAT_LIMIT, WRITE,
 };
 use crate::device::Device;
+use crate::generate::ticks_to_change;
 use crate::random::Random;
 
 const INDEX_PORT: u16 = 0x2E;
@@ -45,7 +46,7 @@ const STATUS_BITS: [u32; 9] = [
     0x0001, 0x0020, 0x0100, 0x0200, 0x0400, 0x0800, 0x8000, 0x8F31, 0xFFFF,
 ];
 const ENABLES: [u32; 7] = [0, 0x001, 0x020, 0x100, 0x200, 0x400, 0x721];
-const TIMER_BITS: [u32; 8] = [1, 1, 2, 3, 4, 0x100, 0xFF_FFFF, 0x8000];
+const TIMER_BITS: [u32; 9] = [1, 1, 2, 3, 4, 0x100, 0xFF_FFFF, 0x8000, 0x80_0000];
 
 /// Turns of a repeat. They are few, so that nested repeats end soon.
 const TURNS: [u32; 10] = [0, 1, 1, 2, 2, 2, 3, 3, 4, 5];
@@ -55,6 +56,7 @@ pub struct Programs<'a> {
     random: &'a mut Random,
     monitor_port: u16,
     key_port: u16,
+    /// The timer after the ticks chosen so far, if nothing else changes it.
     timer: u32,
 }
 
@@ -203,15 +205,30 @@ impl<'a> Programs<'a> {
                 script.push(write(2, ACPI_PORT + 12, sleep));
             }
             10 | 11 => script.push(self.status_read()),
-            12 | 13 => {
-                let ticks = self.ticks();
-                script.push(Record {
-                    value: ticks,
-                    ..Record::of_script(DELAY)
-                });
-            }
+            12 | 13 => self.delay(script),
             14 => script.push(self.wild_access()),
             _ => script.push(read(1, INDEX_PORT)),
+        }
+    }
+
+    /// A delay. Sometimes TMR_STS is cleared or TMR_EN is written before it, or TMR_STS is read
+    /// after it.
+    fn delay(&mut self, script: &mut Vec<Record>) {
+        match self.random.below(4) {
+            0 => script.push(write(2, ACPI_PORT + 8, 0x0001)),
+            1 => {
+                let enable = self.random.pick(&[0, 1, 1]);
+                script.push(write(2, ACPI_PORT + 10, enable));
+            }
+            _ => {}
+        }
+        let ticks = self.ticks();
+        script.push(Record {
+            value: ticks,
+            ..Record::of_script(DELAY)
+        });
+        if self.random.one_in(3) {
+            script.push(read(2, ACPI_PORT + 8));
         }
     }
 
@@ -363,14 +380,17 @@ impl<'a> Programs<'a> {
         }
     }
 
-    /// Ticks: often a few, or up to, just after or just before the next wrap of the timer.
-    fn ticks(&mut self) -> u32 {
-        let to_end = (1u32 << 24).saturating_sub(self.timer);
-        match (self.random.below(4), to_end) {
-            (0, 1..=0xFFFE) => to_end - 1 + self.random.below(3),
+    /// Ticks: often a few, or up to, just after or just before the next change of bit 23 of the
+    /// timer.
+    pub fn ticks(&mut self) -> u32 {
+        let to_change = ticks_to_change(self.timer);
+        let ticks = match (self.random.below(4), to_change) {
+            (0, 1..=0xFFFE) => to_change - 1 + self.random.below(3),
             (1, _) => self.random.below(0x1_0000),
             _ => self.random.pick(&[0, 1, 1, 1, 2, 3, 256, 65_535]),
-        }
+        };
+        self.timer = self.timer.wrapping_add(ticks);
+        ticks
     }
 
     // Events.

@@ -13,6 +13,7 @@ use crate::sequencer::{run, Ended, Ending, Lent, Refusal, Sequencer};
 use crate::state;
 use crate::stream::{self, LINE_LIMIT};
 
+const NO_TICK: u32 = 0x0100_0000;
 const TICK: u32 = 0x0100_0001;
 const RTC_ALARM: u32 = 0x0300_0000;
 const LENT: u32 = 0xEEEE_EEEE;
@@ -59,6 +60,14 @@ fn end() -> Record {
 /// A read of the timer, which each tick increases by one.
 fn read_timer() -> Record {
     record(READ, 4, 0xAC18, 0)
+}
+
+fn read_status() -> Record {
+    record(READ, 2, 0xAC08, 0)
+}
+
+fn delay(ticks: u32) -> Record {
+    record(DELAY, 0, 0, ticks)
 }
 
 fn if_timer(mask: u32) -> Record {
@@ -253,7 +262,7 @@ fn empty_and_nested_scripts() {
 #[test]
 fn events_come_before_accesses() {
     let script = [
-        record(DELAY, 0, 0, 0x10),
+        delay(0x10),
         read_timer(),
         record(WRITE, 4, 0xAC18, 0),
         repeat(2),
@@ -270,6 +279,37 @@ fn events_come_before_accesses() {
     let more = [TICK; 9];
     let (_, values) = run_script(&script, &more);
     assert_eq!(values, [0x11, 0x15, 0x16]);
+}
+
+/// From the fresh device, TMR_STS is set at 800000h and again when the timer wraps to 0.
+#[test]
+fn delays_and_events_set_the_timer_status() {
+    let two_before = [repeat(255), delay(0x8000), end(), delay(0x7FFE)];
+    let clear = record(WRITE, 2, 0xAC08, 0x0001);
+    let expected = [0, 1, 0, 0x80_0000, 0, 1, 0, 0];
+
+    let by_delays = [
+        delay(1),
+        read_status(),
+        delay(1),
+        read_status(),
+        clear,
+        read_status(),
+        read_timer(),
+    ];
+    let script = [two_before.as_slice(), &by_delays].concat().repeat(2);
+    assert_eq!(run_script(&script, &[]).1, expected);
+
+    let by_events = [
+        read_status(),
+        read_status(),
+        clear,
+        read_status(),
+        read_timer(),
+    ];
+    let script = [two_before.as_slice(), &by_events].concat().repeat(2);
+    let events = [TICK, TICK, NO_TICK, NO_TICK, NO_TICK].repeat(2);
+    assert_eq!(run_script(&script, &events).1, expected);
 }
 
 #[test]
@@ -363,7 +403,7 @@ fn a_stopped_run_goes_on() {
         if_timer(2),
         read_timer(),
         or_else(),
-        record(DELAY, 0, 0, 1),
+        delay(1),
         end(),
         repeat(2),
         read(0x2E),

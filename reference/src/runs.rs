@@ -14,6 +14,7 @@ pub const RUNS: Source = Source {
         (100, Generator::run_script),
         (4, Generator::make_fresh),
         (6, Generator::load_good),
+        (16, Generator::load_timer),
         (4, Generator::run_on_broken_device),
         (3, Generator::set_sequencer),
         (1, Generator::damaged_run),

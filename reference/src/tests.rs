@@ -1,8 +1,11 @@
 //! Tests of the cases P1 to P9 (crates/correct/specs/Cases.antt), the resets, and the stream of
 //! docs/CASES.md.
 
+use crate::acpi::Acpi;
 use crate::device::{Answer, Device, Outputs, Refusal};
 use crate::generate::{self, ANYTHING};
+use crate::images::IMAGES;
+use crate::runs::RUNS;
 use crate::state::{self, StateBytes};
 use crate::stream::{self, Reply, Session, LINE_LIMIT};
 
@@ -155,7 +158,7 @@ fn p4_lock_and_the_interrupt_status() {
 }
 
 #[test]
-fn p5_timer_status_at_the_wrap_alone() {
+fn p5_timer_status_when_bit_23_changes() {
     let mut device = Device::fresh();
     device.acpi.timer = 0xFF_FFFF;
     event(&mut device, 0x0100_0001);
@@ -164,7 +167,10 @@ fn p5_timer_status_at_the_wrap_alone() {
     let mut device = Device::fresh();
     device.acpi.timer = 0x7F_FFFF;
     event(&mut device, 0x0100_0001);
-    assert_eq!((device.acpi.timer, device.acpi.pm1_status), (0x80_0000, 0));
+    assert_eq!(
+        (device.acpi.timer, device.acpi.pm1_status),
+        (0x80_0000, 0x0001)
+    );
 }
 
 #[test]
@@ -330,22 +336,78 @@ fn bases_are_masked_in_use_only() {
     assert_eq!(read(&mut device, 1, 0x0A72), (0, 0));
 }
 
+/// Tries all timers.
+#[test]
+fn one_tick_sets_the_timer_status_from_two_timers_only() {
+    let mut acpi = Acpi::reset();
+    let mut set_from = Vec::new();
+    for timer in 0..=0xFF_FFFF {
+        acpi.timer = timer;
+        acpi.pm1_status = 0;
+        acpi.tick(1);
+        if acpi.pm1_status != 0 {
+            assert_eq!(acpi.pm1_status, 0x0001);
+            set_from.push(timer);
+        }
+    }
+    assert_eq!(set_from, [0x7F_FFFF, 0xFF_FFFF]);
+}
+
+#[test]
+fn timer_status_wakes_and_can_be_cleared() {
+    for (timer, changed) in [(0x7F_FFFE, 0x80_0000), (0xFF_FFFE, 0)] {
+        let mut device = Device::fresh();
+        device.acpi.timer = timer;
+        device.acpi.pm1_enable = 0x0001;
+        device.acpi.sleeping = true;
+        let before = device.clone();
+        event(&mut device, 0x0100_0000);
+        assert_eq!(device, before);
+        event(&mut device, 0x0100_0001);
+        assert_eq!((device.acpi.sleeping, device.acpi.pm1_status), (true, 0));
+        event(&mut device, 0x0100_0000);
+        assert_eq!((device.acpi.sleeping, device.acpi.pm1_status), (true, 0));
+        event(&mut device, 0x0100_0001);
+        assert_eq!(device.acpi.timer, changed);
+        assert_eq!(
+            (device.acpi.sleeping, device.acpi.pm1_status),
+            (false, 0x8001)
+        );
+        assert!(device.outputs().smi);
+        // Cleared, it stays clear until bit 23 changes again.
+        assert_eq!(write(&mut device, 2, 0xAC08, 0x8001), 0);
+        for ticks in [0, 1, 0xFFFF] {
+            event(&mut device, 0x0100_0000 | ticks);
+            assert_eq!(device.acpi.pm1_status, 0);
+        }
+        assert!(!device.outputs().smi);
+    }
+}
+
 #[test]
 fn ticks_are_single_ticks() {
     for timer in [
-        0, 0x7F_FFF0, 0xFE_FFFF, 0xFF_0000, 0xFF_0001, 0xFF_FFF0, 0xFF_FFFF,
+        0, 0x7F_0000, 0x7F_0001, 0x7F_FFF0, 0x7F_FFFF, 0x80_0000, 0xFF_0000, 0xFF_0001, 0xFF_FFF0,
+        0xFF_FFFF,
     ] {
-        for ticks in [1, 2, 16, 17, 0xFFFF] {
-            let mut many = Device::fresh();
-            many.acpi.timer = timer;
-            many.acpi.pm1_enable = 0x0001;
-            many.acpi.sleeping = true;
-            let mut single = many.clone();
-            event(&mut many, 0x0100_0000 | ticks);
-            for _ in 0..ticks {
-                event(&mut single, 0x0100_0001);
+        // Asleep, with TMR_EN set and clear.
+        for enable in [0x0001, 0x0000] {
+            let mut start = Device::fresh();
+            start.acpi.timer = timer;
+            start.acpi.cpu_state = 2;
+            start.acpi.pm1_enable = enable;
+            start.acpi.sleeping = true;
+            let mut single = start.clone();
+            let mut ticked = 0;
+            for ticks in [0, 1, 2, 3, 15, 16, 17, 0xFFFE, 0xFFFF] {
+                while ticked < ticks {
+                    event(&mut single, 0x0100_0001);
+                    ticked += 1;
+                }
+                let mut many = start.clone();
+                event(&mut many, 0x0100_0000 | ticks);
+                assert_eq!(many, single, "{ticks} ticks from {timer:06X}");
             }
-            assert_eq!(many, single);
         }
     }
 }
@@ -619,5 +681,35 @@ fn only_done_accesses_change_the_state() {
             }
             Reply::Loaded | Reply::Fresh => {}
         }
+    }
+}
+
+/// Random events and runs set TMR_STS at both changes of bit 23.
+#[test]
+fn random_ticks_reach_both_timer_changes() {
+    for (source, count, least) in [
+        (&ANYTHING, 20_000, 30),
+        (&RUNS, 2_000, 20),
+        (&IMAGES, 2_000, 8),
+    ] {
+        let mut commands = Vec::new();
+        generate::write_commands(source, 1, count, &mut commands)
+            .expect("writing to memory does not fail");
+        let mut session = Session::new();
+        let (mut at_half, mut at_wrap) = (0, 0);
+        for line in commands.split(|byte| *byte == b'\n') {
+            let before = session.device().acpi.pm1_status;
+            let reply = session.answer(line);
+            let after = &session.device().acpi;
+            let set = after.pm1_status & !before & 0x0001 != 0;
+            if set && matches!(reply, Reply::Event(_) | Reply::Ran(_)) {
+                match after.timer {
+                    0x80_0000.. => at_half += 1,
+                    _ => at_wrap += 1,
+                }
+            }
+        }
+        assert!(at_half >= least, "{at_half}");
+        assert!(at_wrap >= least, "{at_wrap}");
     }
 }
