@@ -229,7 +229,7 @@ impl Acpi {
     }
 
     /// Event 1, ticks. TMR_STS is set whenever bit 23 of the timer changes state: from 7FFFFFh to
-    /// 800000h, and from FFFFFFh to 0 (document 02, request L2; source document 002, section 4.1.1).
+    /// 800000h, and from FFFFFFh to 0.
     ///
     /// From one change to the next there are 800000h ticks, and an event has at most 65,535. So bit
     /// 23 changes at most once in an event, and it has changed exactly if its state after the event

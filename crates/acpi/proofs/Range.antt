@@ -29,7 +29,7 @@ use Rattle.acpi.specs.Acpi.{
   rangeTests,
 }
 use Rattle.acpi.specs.Bit as bit
-use Rattle.acpi.specs.Event.{pinLevel, raiseMapped, ticked, timerSize, timerWraps}
+use Rattle.acpi.specs.Event.{bit23Changes, pinLevel, raiseMapped, ticked, timerSize}
 use Rattle.acpi.specs.Fields.{
   raise,
   withCpu,
@@ -219,7 +219,7 @@ unfolding ticked
 kept-ticked a h n =
     let v = (a .timer + n) % timerSize in
     let k = kept-timer a h v (lt-ltb v timerSize (omega arith)) in
-    branch StaysInRange (timerWraps (a .timer) v) (kept-raise (withTimer a v) k bit.tmrSts refl) k
+    branch StaysInRange (bit23Changes (a .timer) v) (kept-raise (withTimer a v) k bit.tmrSts refl) k
 
 kept-mapped : (a : Acpi) → StaysInRange a → (m : ℕ) → StaysInRange (raiseMapped a m)
 unfolding raiseMapped acpiInRange

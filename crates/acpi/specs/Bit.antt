@@ -1,9 +1,9 @@
--- Bits of PM1a_STS, PM1a_CNT and the operand of a pin event, as masks. See docs/CHIP.md, "ACPI". Other files refer to them as
--- `bit.wakeSts`.
+-- Bits of PM1a_STS, PM1a_CNT, the timer and the operand of a pin event, as masks. See docs/CHIP.md, "ACPI". Other files refer to
+-- them as `bit.wakeSts`.
 use Prim.Native.Nat.{ℕ}
 
 -- ---- PM1a_STS
--- "TMR_STS (bit 0) is set when it passes from FFFFFFh to 0"
+-- "TMR_STS (bit 0)"
 abbrev pub tmrSts : ℕ
 tmrSts = 0x0001
 
@@ -42,6 +42,11 @@ sciEn = 0x0001
 -- "bit 13 written 1 puts the chip to sleep"
 abbrev pub slpEn : ℕ
 slpEn = 0x2000
+
+-- ---- the timer
+-- the highest of its 24 bits
+abbrev pub timer23 : ℕ
+timer23 = 0x80_0000
 
 -- ---- the operand of a pin event
 -- "bit 3 new level"

@@ -1,8 +1,8 @@
 -- What ticks and pin events do. See docs/CHIP.md, "Events".
 use Prim.Native.Nat.{ℕ, _+_, _-_, _%_, _^_}
-use mathlib.Core.Bool.{Bool, false, cond}
-use lib.Bits.{bitOr}
-use lib.Dec.{eqb, ltb}
+use mathlib.Core.Bool.{Bool, false, not, cond}
+use lib.Bits.{bitAnd, bitOr}
+use lib.Dec.{eqb}
 use lib.ListN.{getD, set}
 use Rattle.acpi.specs.Bit as bit
 use Rattle.acpi.specs.Fields.{raise, withGpe0sts, withLevels, withTimer}
@@ -13,15 +13,15 @@ use Rattle.acpi.specs.declared.Acpi.{Acpi}
 abbrev pub timerSize : ℕ
 timerSize = 2 ^ 24
 
--- "TMR_STS (bit 0) is set when it passes from FFFFFFh to 0": after at most 65,535 ticks, exactly if the timer is less than
--- before
-abbrev pub timerWraps : ℕ → ℕ → Bool
-timerWraps before after = ltb after before
+-- "set TMR_STS when bit 23 changes state, so at 800000h as well as at the wrap"
+abbrev pub bit23Changes : ℕ → ℕ → Bool
+bit23Changes before after = not (eqb (bitAnd before bit.timer23) (bitAnd after bit.timer23))
 
--- n ticks; the law `ticks` in proofs/Ticks.antt says that this is the same as n single ticks
+-- n ticks: at most 65,535, so bit 23 changes at most once. The law `ticks` in proofs/Ticks.antt says that this is the same as n
+-- single ticks
 unfoldable pub ticked : Acpi → ℕ → Acpi
 ticked a n =
-    cond (timerWraps (a .timer) ((a .timer + n) % timerSize)) (raise (withTimer a ((a .timer + n) % timerSize)) bit.tmrSts)
+    cond (bit23Changes (a .timer) ((a .timer + n) % timerSize)) (raise (withTimer a ((a .timer + n) % timerSize)) bit.tmrSts)
     (withTimer a ((a .timer + n) % timerSize))
 
 -- sets the status bit that a map value selects, if it selects one

@@ -148,6 +148,8 @@ impl Acpi {
     pub const IRQ_MAX: u32 = 15;
 
     pub const TIMER_SIZE: u32 = 0x0100_0000;
+
+    pub const TIMER_BIT_23: u32 = 0x0080_0000;
     // The kinds of events that change this block.
     pub const TICKS: u32 = 1;
 
@@ -264,17 +266,17 @@ impl Acpi {
         self
     }
 
-    // The timer wrapped exactly if it is less than before, because an event has at most 65,535 ticks.
+    // An event has at most 65,535 ticks, so bit 23 changes at most once.
     fn tick(mut self, ticks: u32) -> Self
         ensures { λ r. ⌜ r ≡ ticked self ticks ⌝ }
     {
         let before = self.timer;
         let after = std::num::wrapping_add_u32(before, ticks) % Acpi::TIMER_SIZE;
         self.timer = after;
-        if after < before {
-            return self.raise(Acpi::TMR_STS);
+        if before & Acpi::TIMER_BIT_23 == after & Acpi::TIMER_BIT_23 {
+            return self;
         }
-        self
+        self.raise(Acpi::TMR_STS)
     }
 
     // Sets the status bit that a map value selects, if it selects one.

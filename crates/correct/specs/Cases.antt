@@ -113,13 +113,13 @@ p4 =
     && (eqb (register (monitorWrite 0x83 0x03 .device .monitor) 0x83) 0x00
     && answers (reading (monitorWrite 0x83 0x03 .device) 1 0x0471) 0 0x00)))))
 
--- ---- "P5 timer FFFFFFh, one tick: 0, TMR_STS set; 7FFFFFh, one tick: not set."
+-- ---- "P5 timer FFFFFFh, one tick: 0, TMR_STS set; 7FFFFFh, one tick: not set.", and later: "P5's second half becomes "set"."
 unfoldable pub p5 : Bool
 p5 =
     eqb (tick (powered (withTimer freshAcpi 0xFFFFFF)) .acpi .timer) 0
     && (hasBit 0x0001 (tick (powered (withTimer freshAcpi 0xFFFFFF)) .acpi .pm1sts)
     && (eqb (tick (powered (withTimer freshAcpi 0x7FFFFF)) .acpi .timer) 0x800000
-    && not (hasBit 0x0001 (tick (powered (withTimer freshAcpi 0x7FFFFF)) .acpi .pm1sts))))
+    && hasBit 0x0001 (tick (powered (withTimer freshAcpi 0x7FFFFF)) .acpi .pm1sts)))
 
 -- ---- "P6 PM1a_STS 0101h, written 0100h: 0001h."
 abbrev statusWrite : AccessResult

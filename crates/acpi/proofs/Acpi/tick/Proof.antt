@@ -1,6 +1,6 @@
 -- `acpi::Acpi::tick` returns what `ticked` defines: the sum may wrap at 32 bits, but its remainder by 2^24 is the same.
 use borrow.Author.Needs.{needs}
-use borrow.Author.Tests.{le-ltb, lt-ltb}
+use borrow.Author.Tests.{eq-eqb, ne-eqb}
 use Rattle.acpi.proofs.Legal.{remainder}
 use Rattle.acpi.specs.Event.{ticked}
 use Rattle.acpi.proofs.Acpi.tick.Statement.{statement}
@@ -12,10 +12,13 @@ tick-spec =
     tie.close
     (tie.spec
     (λ c κs. search needs)
+    (λ c. simp (
+      ← (remainder _ _ _ (c .before .wrapping-add-u32 .ensures)),
+      eq-eqb _ _ (c .if1 .taken),
+    ))
     (λ c κs. search needs)
     (λ c. simp (
       ← (remainder _ _ _ (c .before .before .wrapping-add-u32 .ensures)),
-      lt-ltb _ _ (c .before .if1 .taken),
+      ne-eqb _ _ (c .before .if1 .left),
       c .raise .ensures,
-    ))
-    (λ c. simp (← (remainder _ _ _ (c .before .wrapping-add-u32 .ensures)), le-ltb _ _ (c .if1 .left))))
+    )))
