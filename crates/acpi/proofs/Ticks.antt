@@ -14,24 +14,24 @@ use Rattle.mask.specs.Mask.{hasBit}
 use Rattle.acpi.proofs.Settle.{awake, pending-awake, pending-raise, settle-idle, settle-pending}
 use Rattle.acpi.specs.Acpi.{acpiSettle}
 use Rattle.acpi.specs.Bit as bit
-use Rattle.acpi.specs.Event.{ticked, timerSize, bit23Changes}
+use Rattle.acpi.specs.Event.{bit23Changes, ticked, timerSize}
 use Rattle.acpi.specs.Fields.{raise, withCpu, withPm1sts, withSleeping, withTimer}
 use Rattle.acpi.specs.Settle.{pending}
 use Rattle.acpi.specs.Times.{times}
 use Rattle.acpi.specs.declared.Acpi.{Acpi}
 
 -- ---- bit 23
--- bit 23 of a number: 0 or 1
+-- bit 23 as part of a quotient, because `omega` does not reason about masks
 abbrev bit23 : ℕ → ℕ
 bit23 t = t / 2 ^ 23 % 2
 
 changed : (t u : ℕ) → (bit23 t ≡ bit23 u → ⊥) → bit23Changes t u ≡ true
 changed t u n =
-    ap not (ne-eqb (bitAnd t bit.timer23) (bitAnd u bit.timer23) (λ e. n (omega (arith, and-high t 1 23, and-high u 1 23))))
+    ap not (ne-eqb (bitAnd t bit.timerBit23) (bitAnd u bit.timerBit23) (λ e. n (omega (arith, and-high t 1 23, and-high u 1 23))))
 
 unchanged : (t u : ℕ) → bit23 t ≡ bit23 u → bit23Changes t u ≡ false
 unchanged t u e =
-    ap not (eq-eqb (bitAnd t bit.timer23) (bitAnd u bit.timer23) (omega (arith, and-high t 1 23, and-high u 1 23)))
+    ap not (eq-eqb (bitAnd t bit.timerBit23) (bitAnd u bit.timerBit23) (omega (arith, and-high t 1 23, and-high u 1 23)))
 
 -- one tick changes bit 23 exactly from 7FFFFFh, to 800000h, and from FFFFFFh, to 0
 pub changes-from : (t : ℕ) → t < timerSize → bit23Changes t ((t + 1) % timerSize) ≡ (eqb t 0x7FFFFF || eqb t 0xFFFFFF)
@@ -44,6 +44,7 @@ changes-from t h = pick (ℕ-discrete t 0x7FFFFF) (ℕ-discrete t 0xFFFFFF)
         changed t ((t + 1) % timerSize) (λ f. omega arith) ∙ rw (ne-eqb t 0x7FFFFF n, eq-eqb t 0xFFFFFF e)
     pick (no n) (no m) = unchanged t ((t + 1) % timerSize) (omega arith) ∙ rw (ne-eqb t 0x7FFFFF n, ne-eqb t 0xFFFFFF m)
 
+-- ---- settling between ticks
 or-swap : (a b c : ℕ) → bitOr (bitOr a b) c ≡ bitOr (bitOr a c) b
 or-swap a b c = or-assoc a b c ∙ ap (bitOr a) (or-comm b c) ∙ sym (or-assoc a c b)
 
@@ -96,11 +97,11 @@ counted-twice true false a u v = refl
 counted-twice false true a u v = refl
 counted-twice false false a u v = refl
 
--- up to 2^23 ticks change bit 23 at most once: before the last tick or at it
-changes-once : (t n : ℕ) → t < timerSize → n < 2 ^ 23
+-- up to 2^23 ticks change bit 23 at most once, so it differs after the last tick exactly if it changed before this tick or at it
+changes-at-most-once : (t n : ℕ) → t < timerSize → n < 2 ^ 23
     → (bit23Changes t ((t + n) % timerSize) || bit23Changes ((t + n) % timerSize) (((t + n) % timerSize + 1) % timerSize))
     ≡ bit23Changes t (((t + n) % timerSize + 1) % timerSize)
-changes-once t n h l = pick (ℕ-discrete (bit23 t) (bit23 u)) (ℕ-discrete (bit23 u) (bit23 v))
+changes-at-most-once t n h l = pick (ℕ-discrete (bit23 t) (bit23 u)) (ℕ-discrete (bit23 u) (bit23 v))
   where
     u : ℕ
     u = (t + n) % timerSize
@@ -121,7 +122,7 @@ unfolding ticked
 ticked-more a n h l =
     let same : (a .timer + suc n) % timerSize ≡ (u + 1) % timerSize = omega arith in
     ap (λ (x : ℕ). counted (bit23Changes (a .timer) x) a x) same
-    ∙ ap (λ (p : Bool). counted p a ((u + 1) % timerSize)) (sym (changes-once (a .timer) n h l))
+    ∙ ap (λ (p : Bool). counted p a ((u + 1) % timerSize)) (sym (changes-at-most-once (a .timer) n h l))
     ∙ sym (pick (bit23Changes (a .timer) u))
   where
     u : ℕ
@@ -141,8 +142,8 @@ unfolding ticked
 one-tick a h = ap (λ (p : Bool). counted p a ((a .timer + 1) % timerSize)) (changes-from (a .timer) h)
 
 -- settling leaves TMR_STS as it is
-settle-status : (a : Acpi) → hasBit bit.tmrSts (acpiSettle a .pm1sts) ≡ hasBit bit.tmrSts (a .pm1sts)
-settle-status a = pick (pending a) refl
+settle-keeps-tmr-sts : (a : Acpi) → hasBit bit.tmrSts (acpiSettle a .pm1sts) ≡ hasBit bit.tmrSts (a .pm1sts)
+settle-keeps-tmr-sts a = pick (pending a) refl
   where
     woken : (s : Bool) → hasBit bit.tmrSts (awake (withSleeping a s) .pm1sts) ≡ hasBit bit.tmrSts (a .pm1sts)
     woken true = rw (and-or-distrib (a .pm1sts) bit.wakeSts bit.tmrSts) (rw (or-zero-r (bitAnd (a .pm1sts) bit.tmrSts)))
@@ -152,13 +153,12 @@ settle-status a = pick (pending a) refl
     pick false h = rw (settle-idle a h)
     pick true h = rw (settle-pending a h) (woken (a .sleeping))
 
--- a whole event of one tick, settling included: TMR_STS is then set exactly if it was set before or if the timer was at 7FFFFFh or
--- FFFFFFh
+-- after one tick and settling, TMR_STS is set exactly if it was set before, or if the timer was at 7FFFFFh or FFFFFFh
 pub one-tick-status : (a : Acpi) → a .timer < timerSize
     → hasBit bit.tmrSts (acpiSettle (ticked a 1) .pm1sts)
     ≡ (hasBit bit.tmrSts (a .pm1sts) || (eqb (a .timer) 0x7FFFFF || eqb (a .timer) 0xFFFFFF))
 one-tick-status a h =
-    settle-status (ticked a 1)
+    settle-keeps-tmr-sts (ticked a 1)
     ∙ ap (λ (b : Acpi). hasBit bit.tmrSts (b .pm1sts)) (one-tick a h)
     ∙ pick (eqb (a .timer) 0x7FFFFF || eqb (a .timer) 0xFFFFFF)
   where
@@ -169,6 +169,15 @@ one-tick-status a h =
         → hasBit bit.tmrSts (counted p a ((a .timer + 1) % timerSize) .pm1sts) ≡ (hasBit bit.tmrSts (a .pm1sts) || p)
     pick true = set ∙ sym (or-true (hasBit bit.tmrSts (a .pm1sts)))
     pick false = sym (or-false (hasBit bit.tmrSts (a .pm1sts)))
+
+-- ---- any number of ticks
+-- 0 ticks change nothing
+pub no-ticks : (a : Acpi) → a .timer < timerSize → ticked a 0 ≡ a
+unfolding ticked
+no-ticks a h =
+    let same : (a .timer + 0) % timerSize ≡ a .timer = omega arith in
+    ap (λ (v : ℕ). counted (bit23Changes (a .timer) v) a v) same
+    ∙ ap (λ (p : Bool). counted p a (a .timer)) (unchanged (a .timer) (a .timer) refl)
 
 -- "1 ticks (0 to 65,535; from 1 up, same as that many single ticks)"
 pub ticks : (a : Acpi) (n : ℕ) → a .timer < timerSize → 1 ≤ n → n ≤ 65535

@@ -45,8 +45,8 @@ slpEn = 0x2000
 
 -- ---- the timer
 -- the highest of its 24 bits
-abbrev pub timer23 : ℕ
-timer23 = 0x80_0000
+abbrev pub timerBit23 : ℕ
+timerBit23 = 0x800000
 
 -- ---- the operand of a pin event
 -- "bit 3 new level"

@@ -13,12 +13,12 @@ use Rattle.acpi.specs.declared.Acpi.{Acpi}
 abbrev pub timerSize : ℕ
 timerSize = 2 ^ 24
 
--- "set TMR_STS when bit 23 changes state, so at 800000h as well as at the wrap"
+-- TMR_STS follows bit 23: "set TMR_STS when bit 23 changes state, so at 800000h as well as at the wrap"
 abbrev pub bit23Changes : ℕ → ℕ → Bool
-bit23Changes before after = not (eqb (bitAnd before bit.timer23) (bitAnd after bit.timer23))
+bit23Changes before after = not (eqb (bitAnd before bit.timerBit23) (bitAnd after bit.timerBit23))
 
--- n ticks: at most 65,535, so bit 23 changes at most once. The law `ticks` in proofs/Ticks.antt says that this is the same as n
--- single ticks
+-- n ticks. An event has at most 65,535, so bit 23 has changed exactly if it differs before and after. The law `ticks` in
+-- proofs/Ticks.antt says that this is the same as n single ticks
 unfoldable pub ticked : Acpi → ℕ → Acpi
 ticked a n =
     cond (bit23Changes (a .timer) ((a .timer + n) % timerSize)) (raise (withTimer a ((a .timer + n) % timerSize)) bit.tmrSts)

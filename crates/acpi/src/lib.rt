@@ -266,7 +266,7 @@ impl Acpi {
         self
     }
 
-    // An event has at most 65,535 ticks, so bit 23 changes at most once.
+    // An event has at most 65,535 ticks, so bit 23 has changed exactly if it differs before and after.
     fn tick(mut self, ticks: u32) -> Self
         ensures { λ r. ⌜ r ≡ ticked self ticks ⌝ }
     {
