@@ -113,7 +113,8 @@ p4 =
     && (eqb (register (monitorWrite 0x83 0x03 .device .monitor) 0x83) 0x00
     && answers (reading (monitorWrite 0x83 0x03 .device) 1 0x0471) 0 0x00)))))
 
--- ---- "P5 timer FFFFFFh, one tick: 0, TMR_STS set; 7FFFFFh, one tick: not set." A later request: "P5's second half becomes "set"."
+-- ---- "P5 timer FFFFFFh, one tick: 0, TMR_STS set; 7FFFFFh, one tick: not set."
+-- A later request: "P5's second half becomes "set"."
 unfoldable pub p5 : Bool
 p5 =
     eqb (tick (powered (withTimer freshAcpi 0xFFFFFF)) .acpi .timer) 0
