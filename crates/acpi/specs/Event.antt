@@ -13,7 +13,7 @@ use Rattle.acpi.specs.declared.Acpi.{Acpi}
 abbrev pub timerSize : ℕ
 timerSize = 2 ^ 24
 
--- TMR_STS follows bit 23: "set TMR_STS when bit 23 changes state, so at 800000h as well as at the wrap"
+-- A later request: "set TMR_STS when bit 23 changes state, so at 800000h as well as at the wrap"
 abbrev pub bit23Changes : ℕ → ℕ → Bool
 bit23Changes before after = not (eqb (bitAnd before bit.timerBit23) (bitAnd after bit.timerBit23))
 
