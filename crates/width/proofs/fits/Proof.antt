@@ -1,13 +1,19 @@
--- `width::fits` returns what `fitsWidth` defines, because `all_ones` returns the largest value of the width.
-use borrow.Author.Needs.{needs}
+-- `width::fits` returns what `fitsWidth` defines: one arm of the `match` for each width, with the largest value of that width.
+use borrow.Author.Tests.{ne-eqb}
 use Rattle.width.proofs.fits.Statement.{statement}
 use Rattle.width.proofs.fits.Tie as tie
 
-all-ones-requires : tie.Need-all-ones-requires
-all-ones-requires c κs = search needs
-
 returns : tie.Need-returns
-returns c = rw (c .all-ones .ensures)
+returns c = rw (c .match .keys1)
+
+returns-2 : tie.Need-returns-2
+returns-2 c = rw (c .match .keys2)
+
+returns-3 : tie.Need-returns-3
+returns-3 c = rw (
+  ne-eqb _ _ (c .match .rest .0 .1),
+  ne-eqb _ _ (c .match .rest .1),
+)
 
 pub fits-spec : {M : Type 1} → statement M
-fits-spec = tie.close (tie.spec all-ones-requires returns)
+fits-spec = tie.close (tie.spec returns returns-2 returns-3)
