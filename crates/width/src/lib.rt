@@ -28,8 +28,8 @@ pub fn all_ones(width: u32) -> u32
     0xFFFF_FFFF
 }
 
-// Does the value fit the width? Each case has the largest value of its width. The last case is width 4, which every `u32` fits. A number
-// that is not a width is treated like 4; callers check `is_width` first.
+// Does the value fit the width? Each case has the largest value of its width. The last case is width 4; every `u32` fits it. A number that
+// is not a width is treated like 4; callers check `is_width` first.
 pub fn fits(width: u32, value: u32) -> bool
     ensures { λ r. ⌜ r ≡ fitsWidth width value ⌝ }
 {
