@@ -1,4 +1,4 @@
--- `width::fits` returns what `fitsWidth` defines: the arms of the `match` have the widths of `allOnes` in the same order, with the same values.
+-- `width::fits` returns what `fitsWidth` defines: the arms of the `match` are the cases of `allOnes`, in the same order.
 use borrow.Author.Tests.{ne-eqb}
 use Rattle.width.proofs.fits.Statement.{statement}
 use Rattle.width.proofs.fits.Tie as tie
