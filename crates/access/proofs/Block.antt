@@ -5,7 +5,7 @@ use mathlib.Core.Path.{_≡_, refl}
 use mathlib.Core.Bool.{Bool, true, false}
 use native.Mathlib.Omega.{arith}
 use Rattle.access.specs.Block.{Result, result, status}
-use Rattle.access.specs.Status.{done}
+use Rattle.access.specs.Status.{done, isStatus}
 use Rattle.access.specs.declared.Answer.{Answer}
 
 pub record Orderly {B : Type 0} (before : B) (write : Bool) (r : Result B) : Type 0 where
@@ -28,3 +28,10 @@ module _ {B : Type 0} {b : B} where
   -- a read at any status, and the block is unchanged
   pub read-kept : {r : Answer} → Orderly b false (result r b)
   read-kept = record { unchanged = λ n. refl; write-zero = λ e. let z : _≡_ {A = ℕ} 0 1 = cc in absurd (omega arith) }
+
+-- ---- the answer has one of the statuses 0, 1, 2, 4 and 5
+abbrev pub ListedAnswer : Answer → Type 0
+ListedAnswer r = isStatus (r .status) ≡ true
+
+abbrev pub Listed : {B : Type 0} → Result B → Type 0
+Listed r = ListedAnswer (r .answer)

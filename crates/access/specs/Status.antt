@@ -3,10 +3,14 @@
 --     read-only register; 3 SETUP_DATA while SETUP_IDX has an undefined value; 4 no register at the index; 5 the written
 --     value is ignored
 use Prim.Native.Nat.{ℕ}
-use mathlib.Core.Bool.{cond}
+use mathlib.Core.Bool.{Bool, cond, _||_}
 use lib.Dec.{eqb}
 use Rattle.width.specs.Width.{allOnes}
 use Rattle.access.specs.declared.Answer.{Answer}
+
+-- the statuses that an access to a device in range can have; the law is `access-status` of the device
+abbrev pub isStatus : ℕ → Bool
+isStatus s = eqb s 0 || eqb s 1 || eqb s 2 || eqb s 4 || eqb s 5
 
 abbrev pub done : ℕ → Answer
 done v = record { status = 0; value = v }

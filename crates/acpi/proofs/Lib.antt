@@ -3,4 +3,5 @@ pub mod Orderly
 pub mod Range
 pub mod Saved
 pub mod Settle
+pub mod Status
 pub mod Ticks

@@ -113,6 +113,9 @@ module _ (a : Acpi) (h : acpiInRange a ≡ true) where
   pub timer-below : a .timer < timerSize
   timer-below = ltb-true (a .timer) timerSize (r .timer)
 
+  pub setup-index-defined : isSetupIndex (a .setupidx) ≡ true
+  setup-index-defined = r .setupidx
+
   -- ---- one field changed; pin levels, SCI_EN, sleeping, GPE0_STS and GPE0_EN take any value
   kept-pcnt : (v : ℕ) → within mask.pCnt v ≡ true → StaysInRange (withPcnt a v)
   kept-pcnt v k =

@@ -2,4 +2,5 @@ pub mod Claims
 pub mod Orderly
 pub mod Range
 pub mod Settle
+pub mod Status
 pub mod Ticks

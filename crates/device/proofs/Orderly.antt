@@ -50,7 +50,7 @@ dispatch-orderly d x =
     (owner g (x .port))
 
 -- the status is that of the owner, for reads and for writes
-same-status : (x : Access) (r : Answer) → finalAnswer x r .status ≡ r .status
+pub same-status : (x : Access) (r : Answer) → finalAnswer x r .status ≡ r .status
 same-status x r = pick (x .write)
   where
     pick : (b : Bool)

@@ -1,3 +1,4 @@
 pub mod Copy
 pub mod Orderly
 pub mod Saved
+pub mod Status

@@ -1,4 +1,5 @@
 pub mod Orderly
 pub mod Range
 pub mod Saved
+pub mod Status
 pub mod Table
