@@ -54,11 +54,10 @@ extern "C" {
 #define RUNNELOPAL_NO_COUNTER 23       /* the word ends a loop, and no loop is open */
 #define RUNNELOPAL_LOG_FULL 24         /* the word is a read, and the log has no room for its value */
 
-/* Status of an access. With a status other than 0 the access itself changes nothing. */
+/* Status of an access. With a status other than 0 the access itself changes nothing. 3 is retired and is not used again. */
 #define RUNNELOPAL_STATUS_DONE 0      /* done */
 #define RUNNELOPAL_STATUS_UNCLAIMED 1 /* no block claims the port, or the block does not take the access; a read returns all ones */
-#define RUNNELOPAL_STATUS_BLOCKED 2   /* blocked by a lock, or a write to a read-only register; a read returns 0, as for 3 and 4 */
-#define RUNNELOPAL_STATUS_UNDEFINED 3 /* setup data under an undefined index */
+#define RUNNELOPAL_STATUS_BLOCKED 2   /* blocked by a lock, or a write to a read-only register; a read returns 0, as for 4 */
 #define RUNNELOPAL_STATUS_ABSENT 4    /* the index does not name a register */
 #define RUNNELOPAL_STATUS_IGNORED 5   /* the register does not accept the value; the write is ignored */
 

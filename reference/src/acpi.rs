@@ -199,8 +199,15 @@ impl Acpi {
         Ok(())
     }
 
+    /// The register that SETUP_DATA accesses. Only devices in range are accessed, so SETUP_IDX has
+    /// a legal value. What SETUP_DATA does under another value is free; here it panics, so that
+    /// each run of the model also checks that this never happens.
+    fn setup(&self) -> Setup {
+        Setup::under(self.setup_index).expect("a device in range has a legal SETUP_IDX")
+    }
+
     fn read_setup_data(&self) -> Result<u32, Denial> {
-        match Setup::under(self.setup_index).ok_or(Denial::UndefinedIndex)? {
+        match self.setup() {
             Setup::Nothing | Setup::SetGlobalStatus => Ok(0),
             Setup::PinMap(pin) => Ok(u32::from(self.pin_maps[pin])),
             Setup::Irq => Ok(u32::from(self.irq)),
@@ -208,7 +215,7 @@ impl Acpi {
     }
 
     fn write_setup_data(&mut self, value: u32) -> Result<(), Denial> {
-        match Setup::under(self.setup_index).ok_or(Denial::UndefinedIndex)? {
+        match self.setup() {
             Setup::Nothing => return Err(Denial::Ignored),
             // Every value sets GBL_STS, 0 too.
             Setup::SetGlobalStatus => self.pm1_status |= GBL_STS,

@@ -30,15 +30,14 @@ impl Width {
     }
 }
 
-/// Statuses 1 to 5: why an access was not done.
+/// Statuses 1, 2, 4 and 5: why an access was not done. Status 3 is retired, and its number is not
+/// used again.
 #[derive(Clone, Copy, Debug, PartialEq, Eq)]
 pub enum Denial {
     /// No block claims the port, or the block does not take the access.
     Unclaimed,
     /// Blocked, or a write to a read-only register.
     Blocked,
-    /// Setup data under an undefined index. A state in range never has one.
-    UndefinedIndex,
     /// The index does not name a register.
     NoRegister,
     /// The register does not accept the value; the write is ignored.
@@ -50,7 +49,6 @@ impl Denial {
         match self {
             Denial::Unclaimed => 1,
             Denial::Blocked => 2,
-            Denial::UndefinedIndex => 3,
             Denial::NoRegister => 4,
             Denial::Ignored => 5,
         }

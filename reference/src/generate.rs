@@ -1039,6 +1039,11 @@ impl Generator {
         let before = self.good_state();
         let bytes = self.boundary_state(&before);
         self.load(&bytes);
+        // An access to SETUP_DATA under an undefined SETUP_IDX is refused with 11, as any other is.
+        let setup_index = u32::from(self.device().acpi.setup_index);
+        if !LEGAL_SETUP_INDICES.contains(&setup_index) {
+            self.drive_setup();
+        }
         for _ in 0..=self.random.below(2) {
             match self.random.below(8) {
                 0 => self.line(b"S"),

@@ -1,10 +1,13 @@
 //! Tests of the cases P1 to P9 (crates/correct/specs/Cases.antt), the resets, and the stream of
 //! docs/CASES.md.
 
+use std::collections::BTreeSet;
+
 use crate::acpi::Acpi;
 use crate::device::{Answer, Device, Outputs, Refusal};
 use crate::generate::{self, ANYTHING};
 use crate::images::IMAGES;
+use crate::random::Random;
 use crate::runs::RUNS;
 use crate::state::{self, StateBytes};
 use crate::stream::{self, Reply, Session, LINE_LIMIT};
@@ -653,7 +656,56 @@ fn generator_writes_the_count() {
     }
 }
 
-/// Statuses 1 to 5 change nothing except by settling, and refusals change nothing.
+/// An access to a device in range has status 0, 1, 2, 4 or 5, and never panics. All five occur.
+/// The devices are fresh, busy and random ones, each under every setup index that refusal 11 lets
+/// through. The accesses are those of the random commands, and reads and writes of every width at
+/// each offset of the ACPI block and at random ports.
+#[test]
+fn every_status_is_in_the_table() {
+    let mut probe = Device::fresh();
+    let mut indices: Vec<u16> = (0..=u16::MAX).collect();
+    indices.retain(|index| {
+        probe.acpi.setup_index = *index;
+        probe.in_range()
+    });
+    assert_eq!(
+        indices,
+        [0x00, 0x10, 0x11, 0x12, 0x13, 0x14, 0x15, 0x16, 0x17, 0x40, 0x41]
+    );
+
+    let mut commands = Vec::new();
+    generate::write_commands(&ANYTHING, 3, 1_000, &mut commands)
+        .expect("writing to memory does not fail");
+    let mut session = Session::new();
+    let mut devices = vec![Device::fresh(), busy()];
+    let mut statuses = BTreeSet::new();
+    for line in commands.split(|byte| *byte == b'\n') {
+        if let Reply::Access(answer, _) = session.answer(line) {
+            statuses.insert(answer.status);
+        }
+        devices.push(session.device().clone());
+    }
+    devices.retain(Device::in_range);
+    devices.dedup();
+
+    let mut random = Random::new(3);
+    for mut device in devices {
+        for index in &indices {
+            device.acpi.setup_index = *index;
+            let anywhere = random.below(0x1_0000);
+            for port in (0xAC00..=0xAC1F).chain([anywhere]) {
+                for width in [1, 2, 4] {
+                    let value = random.bits(8 * width);
+                    statuses.insert(read(&mut device.clone(), width, port).0);
+                    statuses.insert(write(&mut device.clone(), width, port, value));
+                }
+            }
+        }
+    }
+    assert_eq!(statuses, BTreeSet::from([0, 1, 2, 4, 5]));
+}
+
+/// Statuses other than 0 change nothing except by settling, and refusals change nothing.
 #[test]
 fn only_done_accesses_change_the_state() {
     let mut commands = Vec::new();

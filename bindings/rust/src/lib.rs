@@ -59,16 +59,14 @@ pub mod ending {
     pub const LOG_FULL: u32 = 24;
 }
 
-/// The status of an access. With a status other than `DONE` the access itself changes nothing.
+/// The status of an access. With a status other than `DONE` the access itself changes nothing. 3 is retired and is not used again.
 pub mod status {
     /// Done.
     pub const DONE: u64 = 0;
     /// No block claims the port, or the block does not take the access. A read gives all ones of its width.
     pub const UNCLAIMED: u64 = 1;
-    /// Blocked by a lock, or a write to a read-only register. A read gives 0, as for `UNDEFINED` and `ABSENT`.
+    /// Blocked by a lock, or a write to a read-only register. A read gives 0, as for `ABSENT`.
     pub const BLOCKED: u64 = 2;
-    /// Setup data under an undefined index.
-    pub const UNDEFINED: u64 = 3;
     /// The index does not name a register.
     pub const ABSENT: u64 = 4;
     /// The register does not accept the value; the write is ignored.

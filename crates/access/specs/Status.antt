@@ -1,14 +1,14 @@
 -- The answer to an access: the status, and the value of a read. See docs/CHIP.md, "Accesses". The statuses are:
 --     0 done; 1 no block owns the port, or its owner does not accept the access; 2 blocked by a lock, or a write to a
---     read-only register; 3 SETUP_DATA while SETUP_IDX has an undefined value; 4 no register at the index; 5 the written
---     value is ignored
+--     read-only register; 4 no register at the index; 5 the written value is ignored
+-- 3 is retired. A later request: "remove it from the table and from every caller; its number isn't used again"
 use Prim.Native.Nat.{ℕ}
 use mathlib.Core.Bool.{Bool, cond, _||_}
 use lib.Dec.{eqb}
 use Rattle.width.specs.Width.{allOnes}
 use Rattle.access.specs.declared.Answer.{Answer}
 
--- the statuses that an access to a device in range can have; the law is `access-status` of the device
+-- the statuses above; every access to every device has one of them (`access-status` in the proofs of `device`)
 abbrev pub isStatus : ℕ → Bool
 isStatus s = eqb s 0 || eqb s 1 || eqb s 2 || eqb s 4 || eqb s 5
 

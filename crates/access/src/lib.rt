@@ -18,14 +18,12 @@ pub struct Answer {
 }
 
 impl Answer {
-    // The statuses, in the order of the table in docs/CHIP.md, "Accesses".
+    // The statuses, in the order of the table in docs/CHIP.md, "Accesses". 3 is retired and is not used again.
     pub const DONE: u32 = 0;
 
     pub const UNCLAIMED: u32 = 1;
 
     pub const BLOCKED: u32 = 2;
-
-    pub const UNDEFINED: u32 = 3;
 
     pub const ABSENT: u32 = 4;
 

@@ -3,5 +3,4 @@ pub mod Orderly
 pub mod Range
 pub mod Saved
 pub mod Settle
-pub mod Status
 pub mod Ticks

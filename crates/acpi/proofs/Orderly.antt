@@ -1,8 +1,10 @@
--- An access that is not done leaves the ACPI block unchanged, and a write returns the value 0. Shown branch by branch.
+-- An access that is not done leaves the ACPI block unchanged, a write returns the value 0, and the status is one of those in the
+-- table. Shown branch by branch.
 use Prim.Native.Nat.{ℕ, _-_}
+use mathlib.Core.Path.{refl}
 use mathlib.Core.Bool.{Bool, false}
 use lib.Dec.{eqb, leb}
-use Rattle.access.proofs.Block.{Orderly, kept, read-done, read-kept, write-done}
+use Rattle.access.proofs.Block.{Orderly, kept, read-done, write-done}
 use Rattle.access.specs.Block.{Result}
 use Rattle.access.specs.declared.Access.{Access}
 use Rattle.mask.proofs.Branch.{branch, branch-on}
@@ -20,9 +22,7 @@ read-orderly : (a : Acpi) (offset : ℕ) → Orderly a false (registerRead a off
 unfolding registerRead
 read-orderly a offset =
     let P : Result Acpi → Type 0 = Orderly a false in
-    branch P (eqb offset at.pLvl2) read-done
-    (branch P (eqb offset at.pLvl3) read-done
-    (branch P (eqb offset at.setupData) read-kept read-done))
+    branch P (eqb offset at.pLvl2) read-done (branch P (eqb offset at.pLvl3) read-done read-done)
 
 module _ (a : Acpi) (w : Bool) where
   abbrev P : Result Acpi → Type 0
@@ -30,7 +30,7 @@ module _ (a : Acpi) (w : Bool) where
 
   command-orderly : (v : ℕ) → P (commandWrite a v)
   unfolding commandWrite
-  command-orderly v = branch P (eqb v 1) write-done (branch P (eqb v 2) write-done kept)
+  command-orderly v = branch P (eqb v 1) write-done (branch P (eqb v 2) write-done (kept refl))
 
   control-orderly : (v : ℕ) → P (controlWrite a v)
   unfolding controlWrite
@@ -38,22 +38,22 @@ module _ (a : Acpi) (w : Bool) where
 
   setup-index-orderly : (v : ℕ) → P (setupIndexWrite a v)
   unfolding setupIndexWrite
-  setup-index-orderly v = branch P (isSetupIndex v) write-done kept
+  setup-index-orderly v = branch P (isSetupIndex v) write-done (kept refl)
 
   map-orderly : (pin v : ℕ) → P (mapWrite a pin v)
   unfolding mapWrite
-  map-orderly pin v = branch P (legalMap v) write-done kept
+  map-orderly pin v = branch P (legalMap v) write-done (kept refl)
 
   irq-orderly : (v : ℕ) → P (irqWrite a v)
   unfolding irqWrite
-  irq-orderly v = branch P (leb v irqMax) write-done kept
+  irq-orderly v = branch P (leb v irqMax) write-done (kept refl)
 
   setup-orderly : (v : ℕ) → P (setupWrite a v)
   unfolding setupWrite
   setup-orderly v =
-      branch P (eqb (a .setupidx) index.none) kept
-      (branch P (isMapIndex (a .setupidx)) (map-orderly (a .setupidx - index.firstMap) v)
-      (branch P (eqb (a .setupidx) index.globalEvent) write-done (branch P (eqb (a .setupidx) index.irq) (irq-orderly v) kept)))
+      branch P (isMapIndex (a .setupidx)) (map-orderly (a .setupidx - index.firstMap) v)
+      (branch P (eqb (a .setupidx) index.globalEvent) write-done
+      (branch P (eqb (a .setupidx) index.irq) (irq-orderly v) (kept refl)))
 
   write-orderly : (offset v : ℕ) → P (registerWrite a offset v)
   unfolding registerWrite
@@ -65,7 +65,7 @@ module _ (a : Acpi) (w : Bool) where
       (branch P (eqb offset at.pm1aCnt) (control-orderly v)
       (branch P (eqb offset at.setupIdx) (setup-index-orderly v)
       (branch P (eqb offset at.gpe0Sts) write-done
-      (branch P (eqb offset at.gpe0En) write-done (branch P (eqb offset at.setupData) (setup-orderly v) kept))))))))
+      (branch P (eqb offset at.gpe0En) write-done (branch P (eqb offset at.setupData) (setup-orderly v) (kept refl)))))))))
 
 pub acpi-orderly : (a : Acpi) (offset : ℕ) (x : Access) → Orderly a (x .write) (acpiAccess a offset x)
 unfolding acpiAccess
@@ -73,4 +73,4 @@ acpi-orderly a offset x =
     let P : Result Acpi → Type 0 = Orderly a (x .write) in
     branch P (takes offset (x .width))
     (branch-on P (x .write) (λ e. write-orderly a (x .write) offset (x .value)) (λ e. rw e (read-orderly a offset)))
-    kept
+    (kept refl)

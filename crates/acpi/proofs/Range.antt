@@ -113,9 +113,6 @@ module _ (a : Acpi) (h : acpiInRange a ≡ true) where
   pub timer-below : a .timer < timerSize
   timer-below = ltb-true (a .timer) timerSize (r .timer)
 
-  pub setup-index-defined : isSetupIndex (a .setupidx) ≡ true
-  setup-index-defined = r .setupidx
-
   -- ---- one field changed; pin levels, SCI_EN, sleeping, GPE0_STS and GPE0_EN take any value
   kept-pcnt : (v : ℕ) → within mask.pCnt v ≡ true → StaysInRange (withPcnt a v)
   kept-pcnt v k =
@@ -161,7 +158,7 @@ module _ (a : Acpi) (h : acpiInRange a ≡ true) where
   unfolding registerRead
   kept-read offset =
       branch ResultInRange (eqb offset at.pLvl2) (kept-cpu 2 refl)
-      (branch ResultInRange (eqb offset at.pLvl3) (kept-cpu 3 refl) (branch ResultInRange (eqb offset at.setupData) h h))
+      (branch ResultInRange (eqb offset at.pLvl3) (kept-cpu 3 refl) h)
 
   kept-map : (pin v : ℕ) → ResultInRange (mapWrite a pin v)
   unfolding mapWrite
@@ -173,10 +170,9 @@ module _ (a : Acpi) (h : acpiInRange a ≡ true) where
   kept-setup : (v : ℕ) → ResultInRange (setupWrite a v)
   unfolding setupWrite irqWrite
   kept-setup v =
-      branch ResultInRange (eqb (a .setupidx) index.none) h
-      (branch ResultInRange (isMapIndex (a .setupidx)) (kept-map (a .setupidx - index.firstMap) v)
+      branch ResultInRange (isMapIndex (a .setupidx)) (kept-map (a .setupidx - index.firstMap) v)
       (branch ResultInRange (eqb (a .setupidx) index.globalEvent) (kept-raise bit.gblSts refl)
-      (branch ResultInRange (eqb (a .setupidx) index.irq) (branch-on ResultInRange (leb v irqMax) (kept-irq v) (λ l. h)) h)))
+      (branch ResultInRange (eqb (a .setupidx) index.irq) (branch-on ResultInRange (leb v irqMax) (kept-irq v) (λ l. h)) h))
 
   kept-setup-index : (v : ℕ) → ResultInRange (setupIndexWrite a v)
   unfolding setupIndexWrite

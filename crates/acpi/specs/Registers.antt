@@ -20,7 +20,7 @@ use Rattle.acpi.specs.Fields.{
 }
 use Rattle.acpi.specs.Mask as mask
 use Rattle.acpi.specs.Offset as at
-use Rattle.acpi.specs.Setup.{setupIndexWrite, setupRead, setupWrite}
+use Rattle.acpi.specs.Setup.{setupIndexWrite, setupValue, setupWrite}
 use Rattle.acpi.specs.declared.Acpi.{Acpi}
 
 -- "Offset from AC00h, width; any other offset or width in the range is status 1."
@@ -49,14 +49,14 @@ registerValue a offset =
     (cond (eqb offset at.setupIdx) (a .setupidx)
     (cond (eqb offset at.gpe0Sts) (a .gpe0sts)
     (cond (eqb offset at.gpe0En) (a .gpe0en)
-    (cond (eqb offset at.timer) (a .timer) 0)))))))
+    (cond (eqb offset at.setupData) (setupValue a)
+    (cond (eqb offset at.timer) (a .timer) 0))))))))
 
 -- "4, 5 (1) P_LVL2, P_LVL3: read 0, a read puts the CPU state to 2, 3"
 unfoldable pub registerRead : Acpi → ℕ → Result Acpi
 registerRead a offset =
     cond (eqb offset at.pLvl2) (result (done 0) (withCpu a 2))
-    (cond (eqb offset at.pLvl3) (result (done 0) (withCpu a 3))
-    (cond (eqb offset at.setupData) (result (setupRead a) a) (result (done (registerValue a offset)) a)))
+    (cond (eqb offset at.pLvl3) (result (done 0) (withCpu a 3)) (result (done (registerValue a offset)) a))
 
 -- ---- writes
 -- "6 (1) SMI_CMD: 1 sets SCI_EN, 2 clears it, other values status 5"

@@ -36,6 +36,7 @@ impl Acpi {
             Acpi::SETUP_IDX => self.setupidx as u32,
             Acpi::GPE0_STS => self.gpe0sts as u32,
             Acpi::GPE0_EN => self.gpe0en as u32,
+            Acpi::SETUP_DATA => self.setup_value(),
             Acpi::TIMER => self.timer,
             _ => 0,
         }
@@ -60,10 +61,6 @@ impl Acpi {
                     block: self,
                 }
             }
-            Acpi::SETUP_DATA => AccessResult {
-                answer: self.setup_read(),
-                block: self,
-            },
             _ => AccessResult {
                 answer: Answer::done(self.register_value(offset)),
                 block: self,

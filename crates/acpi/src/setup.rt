@@ -7,7 +7,7 @@ ghost use Rattle.access.specs.Block.{result};
 ghost use Rattle.acpi.specs.Setup.{
   isSetupIndex,
   setupIndexWrite,
-  setupRead,
+  setupValue,
   mapWrite,
   irqWrite,
   setupWrite,
@@ -36,20 +36,19 @@ impl Acpi {
         AccessResult::status(Answer::IGNORED, self)
     }
 
-    pub(crate) fn setup_read(self) -> Answer
-        ensures { λ r. ⌜ r ≡ setupRead self ⌝ }
+    // The value of SETUP_DATA. It is 0 under 00h and 40h; in range, no other index reaches the last case.
+    pub(crate) fn setup_value(self) -> u32
+        ensures { λ r. ⌜ r ≡ setupValue self ⌝ }
     {
         let index = self.setupidx;
         match index {
-            Acpi::SETUP_NONE => Answer::done(0),
             Acpi::SETUP_FIRST_MAP..=Acpi::SETUP_LAST_MAP => {
                 let maps = self.maps;
                 let pin = (index - Acpi::SETUP_FIRST_MAP) as usize;
-                Answer::done(mask::wide16(maps[pin]))
+                maps[pin] as u32
             }
-            Acpi::SETUP_GLOBAL_EVENT => Answer::done(0),
-            Acpi::SETUP_IRQ => Answer::done(mask::wide8(self.irq)),
-            _ => Answer::status_only(Answer::UNDEFINED),
+            Acpi::SETUP_IRQ => self.irq as u32,
+            _ => 0,
         }
     }
 
@@ -74,12 +73,12 @@ impl Acpi {
         AccessResult::status(Answer::IGNORED, self)
     }
 
+    // A write to SETUP_DATA. Under 00h every value is ignored; in range, no other index reaches the last case.
     pub(crate) fn setup_write(self, value: u32) -> AccessResult
         ensures { λ r. ⌜ result (r .answer) (r .block) ≡ setupWrite self value ⌝ }
     {
         let index = self.setupidx;
         match index {
-            Acpi::SETUP_NONE => AccessResult::status(Answer::IGNORED, self),
             Acpi::SETUP_FIRST_MAP..=Acpi::SETUP_LAST_MAP => self.map_write(
                 (index - Acpi::SETUP_FIRST_MAP) as usize,
                 value,
@@ -89,7 +88,7 @@ impl Acpi {
                 self.raise(Acpi::GBL_STS),
             ),
             Acpi::SETUP_IRQ => self.irq_write(value),
-            _ => AccessResult::status(Answer::UNDEFINED, self),
+            _ => AccessResult::status(Answer::IGNORED, self),
         }
     }
 }

@@ -1,4 +1,3 @@
 pub mod Orderly
 pub mod Range
 pub mod Saved
-pub mod Status

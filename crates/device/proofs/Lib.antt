@@ -2,5 +2,4 @@ pub mod Claims
 pub mod Orderly
 pub mod Range
 pub mod Settle
-pub mod Status
 pub mod Ticks

@@ -1,4 +1,3 @@
 pub mod Copy
 pub mod Orderly
 pub mod Saved
-pub mod Status

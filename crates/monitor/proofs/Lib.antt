@@ -1,5 +1,4 @@
 pub mod Orderly
 pub mod Range
 pub mod Saved
-pub mod Status
 pub mod Table

@@ -1,6 +1,7 @@
--- For every access to the monitor, branch by branch: "Apart from the settling below, statuses 1 to 5 change nothing", and "A
--- write's value answer is 0".
+-- For every access to the monitor, branch by branch: "Apart from the settling below, statuses 1 to 5 change nothing", "A write's value
+-- answer is 0", and the status is one of those in the table.
 use Prim.Native.Nat.{ℕ, _%_}
+use mathlib.Core.Path.{refl}
 use mathlib.Core.Bool.{Bool, true, false, cond}
 use lib.Dec.{eqb}
 use Rattle.access.proofs.Block.{Orderly, kept, read-kept, write-done}
@@ -20,20 +21,20 @@ use Rattle.monitor.specs.declared.Monitor.{Monitor}
 module _ (m : Monitor) where
   lockable-write : (i v : ℕ) → Orderly m true (lockableWrite m i v)
   unfolding lockableWrite
-  lockable-write i v = branch (Orderly m true) (lockSet m) kept write-done
+  lockable-write i v = branch (Orderly m true) (lockSet m) (kept refl) write-done
 
   write-as : (kind i v : ℕ) → Orderly m true (writeAs kind m i v)
   unfolding writeAs
   write-as kind i v =
       branch (Orderly m true) (eqb kind lock) (lockable-write i _)
-      (branch (Orderly m true) (eqb kind readOnly) kept
+      (branch (Orderly m true) (eqb kind readOnly) (kept refl)
       (branch (Orderly m true) (eqb kind lockable) (lockable-write i _)
       (branch (Orderly m true) (eqb kind write1Clears) write-done
-      (branch (Orderly m true) (eqb kind neverLocked) write-done kept))))
+      (branch (Orderly m true) (eqb kind neverLocked) write-done (kept refl)))))
 
   data-read : Orderly m false (dataRead m)
   unfolding dataRead
-  data-read = branch (Orderly m false) (eqb (kindOf (m .index)) absent) kept read-kept
+  data-read = branch (Orderly m false) (eqb (kindOf (m .index)) absent) (kept refl) (read-kept refl)
 
   -- a write or a read
   either : (w : Bool) {r s : Result Monitor} → Orderly m true r → Orderly m false s → Orderly m w (cond w r s)
@@ -44,6 +45,6 @@ module _ (m : Monitor) where
   unfolding monitorAccess
   monitor-orderly offset x =
       branch (Orderly m (x .write)) (takesByte (x .width))
-      (branch (Orderly m (x .write)) (eqb offset 0) (either (x .write) write-done read-kept)
+      (branch (Orderly m (x .write)) (eqb offset 0) (either (x .write) write-done (read-kept refl))
       (either (x .write) (write-as (kindOf (m .index)) (m .index) (x .value % 256)) data-read))
-      kept
+      (kept refl)

@@ -14,12 +14,9 @@ register-read-spec =
     (λ c κs. search needs)
     (λ c κs. search needs)
     (λ c κs. search needs)
-    (λ c κs. search needs)
     (λ c. simp (c .before .match .keys1, c .done .ensures))
     (λ c. simp (c .before .match .keys2, c .done2 .ensures))
-    (λ c. simp (c .before .match .keys3, c .setup-read .ensures))
     (λ c. simp (
-      ne-eqb _ _ (c .before .before .match .rest .0 .0 .1),
       ne-eqb _ _ (c .before .before .match .rest .0 .1),
       ne-eqb _ _ (c .before .before .match .rest .1),
       c .before .register-value .ensures,

@@ -17,6 +17,7 @@ register-value-spec =
     (λ c. search needs)
     (λ c. search needs)
     (λ c. search needs)
+    (λ c κs. search needs)
     (λ c. simp (c .before .match .keys1))
     (λ c. simp (c .before .match .keys2))
     (λ c. simp (c .before .match .keys3))
@@ -24,10 +25,12 @@ register-value-spec =
     (λ c. simp (c .before .match .keys5))
     (λ c. simp (c .before .match .keys6))
     (λ c. simp (c .before .match .keys7))
-    (λ c. simp (c .match .keys8))
+    (λ c. simp (c .before .match .keys8, c .setup-value .ensures))
+    (λ c. simp (c .match .keys9))
     (λ c.
     let r = c .match .rest in
     simp (
+      ne-eqb _ _ (r .0 .0 .0 .0 .0 .0 .0 .0 .1),
       ne-eqb _ _ (r .0 .0 .0 .0 .0 .0 .0 .1),
       ne-eqb _ _ (r .0 .0 .0 .0 .0 .0 .1),
       ne-eqb _ _ (r .0 .0 .0 .0 .0 .1),

@@ -16,24 +16,20 @@ setup-write-spec =
     (λ c κs. search needs)
     (λ c κs. search needs)
     (λ c κs. search needs)
-    (λ c κs. search needs)
     (λ c. search needs)
     (λ c κs. search needs)
     (λ c κs. search needs)
-    (λ c. simp (c .before .match .keys1, c .status .ensures))
-    (λ c. simp (c .before .before .match .keys2, c .before .raise .ensures, c .status2 .ensures))
-    (λ c. simp (c .before .match .keys3, c .irq-write .ensures))
+    (λ c. simp (c .before .before .match .keys1, c .before .raise .ensures, c .status .ensures))
+    (λ c. simp (c .before .match .keys2, c .irq-write .ensures))
     (λ c. simp (
-      ne-eqb _ _ (c .before .before .before .match .rest .0 .0 .1),
       ne-eqb _ _ (c .before .before .before .match .rest .0 .1),
       ne-eqb _ _ (c .before .before .before .match .rest .1),
       between index.firstMap index.lastMap _ (c .before .before .if1 .left) (c .before .if2 .taken),
       c .map-write .ensures,
     ))
     (λ c. simp (
-      ne-eqb _ _ (c .before .before .match .rest .0 .0 .1),
       ne-eqb _ _ (c .before .before .match .rest .0 .1),
       ne-eqb _ _ (c .before .before .match .rest .1),
       outside index.firstMap index.lastMap _ (⊎-elim (λ w. inl (w .taken)) (λ w. inr (w .1 .left)) (c .before .if1 .came)),
-      c .status3 .ensures,
+      c .status2 .ensures,
     )))
