@@ -42,7 +42,7 @@ pub enum Work {
 #[derive(PartialEq, Eq)]
 pub struct Buffers {
     image: Vec<u8>,
-    log: Vec<u32>,
+    log: Vec<u64>,
 }
 
 /// The results on which both programs must agree: the numbers of the last call, a sum over all calls, and the device.
@@ -69,7 +69,7 @@ impl Work {
             Work::Run { log, .. } => (0, *log),
             Work::Accesses { .. } | Work::Events { .. } => (0, 0),
         };
-        Buffers { image: vec![0xEE; image], log: vec![0xEEEE_EEEE; log] }
+        Buffers { image: vec![0xEE; image], log: vec![0xEEEE_EEEE_EEEE_EEEE; log] }
     }
 
     pub fn done(&self, side: Side, buffers: &mut Buffers) -> Done {
@@ -102,7 +102,7 @@ fn compiled(side: Side, script: &[u8], times: usize, image: &mut [u8]) -> Done {
     Done { numbers: [words as u64, 0, 0, 0, 0], sum: 0, state: None }
 }
 
-fn our_run(image: &[u8], events: &[u32], budget: u32, log: &mut [u32], times: usize) -> Done {
+fn our_run(image: &[u8], events: &[u32], budget: u32, log: &mut [u64], times: usize) -> Done {
     let mut done = None;
     for _ in 0..times {
         done = Some(runnelopal::run(black_box(image), events, budget, log).expect("the image is valid"));
@@ -116,7 +116,7 @@ fn our_run(image: &[u8], events: &[u32], budget: u32, log: &mut [u32], times: us
     }
 }
 
-fn their_run(image: &[u8], events: &[u32], budget: u32, log: &mut [u32], times: usize) -> Done {
+fn their_run(image: &[u8], events: &[u32], budget: u32, log: &mut [u64], times: usize) -> Done {
     let mut done = None;
     for _ in 0..times {
         let mut device = Device::fresh();
@@ -156,7 +156,8 @@ fn our_accesses(start: &state::StateBytes, list: &[Access], times: usize) -> Don
             };
             let answer = answer.expect("the access is valid");
             let on = answer.outputs;
-            sum = added(sum, answer.status << 40 | u64::from(answer.value) << 3 | outputs(on.sci, on.smi, on.monitor));
+            let owner = u64::from(answer.owner) << 44;
+            sum = added(sum, owner | answer.status << 40 | u64::from(answer.value) << 3 | outputs(on.sci, on.smi, on.monitor));
         }
     }
     Done { numbers: [0; 5], sum, state: Some(device.state) }
@@ -169,7 +170,8 @@ fn their_access(device: &mut Device, access: &Access) -> u64 {
     };
     let answer = answer.expect("the access is valid");
     let on = device.outputs();
-    u64::from(answer.status) << 40 | u64::from(answer.value) << 3 | outputs(on.sci, on.smi, on.monitor)
+    let owner = u64::from(answer.owner.number()) << 44;
+    owner | u64::from(answer.status) << 40 | u64::from(answer.value) << 3 | outputs(on.sci, on.smi, on.monitor)
 }
 
 /// Calls `with` on each item. Between the calls the device is kept as a struct or as bytes.

@@ -1,5 +1,5 @@
-/* Reads a script on standard input, compiles it, runs it on a fresh device and prints the values that the run logged. Then reads one
- * register of the device after the run. */
+/* Reads a script on standard input, compiles it, runs it on a fresh device and prints the values that the run logged, each with the owner
+ * of its port. Then reads one register of the device after the run. */
 #include <inttypes.h>
 #include <stdio.h>
 
@@ -10,13 +10,13 @@ int main(void)
     /* One record longer than the longest script, so that a script that is too long is refused and not cut off. */
     static uint8_t script[RUNNELOPAL_IMAGE + RUNNELOPAL_RECORD];
     static uint8_t image[RUNNELOPAL_IMAGE];
-    static uint32_t log[1024];
+    static uint64_t log[1024];
     uint8_t state[RUNNELOPAL_STATE];
     uint32_t events[1] = {0}; /* the run has no events, but the pointer must not be null */
-    uint64_t answer[6] = {0};
+    uint64_t answer[7] = {0};
 
     size_t length = fread(script, 1, sizeof script, stdin);
-    uint32_t refusal = runnelopal_compile(script, length, image, sizeof image, answer, 6);
+    uint32_t refusal = runnelopal_compile(script, length, image, sizeof image, answer, 7);
     if (refusal != 0) {
         printf("refused %" PRIu32 " at %" PRIu64 "\n", refusal, answer[0]);
         return 0;
@@ -25,14 +25,15 @@ int main(void)
     printf("%zu words\n", words);
 
     uint32_t ending = runnelopal_run(image, RUNNELOPAL_RECORD * words, events, 0, 100000, log, 1024, state, sizeof state,
-                                     answer, 6);
+                                     answer, 7);
     uint64_t steps = answer[1];
     uint64_t logged = answer[3];
     for (size_t k = 0; k < logged; k++)
-        printf("logged %08" PRIX32 "\n", log[k]);
+        printf("logged %08" PRIX32 " %" PRIu32 "\n", runnelopal_entry_value(log[k]), runnelopal_entry_owner(log[k]));
     printf("ended with %" PRIu32 " after %" PRIu64 " steps\n", ending, steps);
 
-    refusal = runnelopal_access(state, sizeof state, false, 1, 0x2E, 0, answer, 6);
-    printf("002E reads %02" PRIX64 ", status %" PRIu64 ", refusal %" PRIu32 "\n", answer[2], answer[1], refusal);
+    refusal = runnelopal_access(state, sizeof state, false, 1, 0x2E, 0, answer, 7);
+    printf("002E reads %02" PRIX64 ", status %" PRIu64 ", owner %" PRIu64 ", refusal %" PRIu32 "\n", answer[2], answer[1], answer[6],
+           refusal);
     return 0;
 }

@@ -7,7 +7,8 @@
  * writes must not overlap any other buffer of the same call. There are no other preconditions: every byte and number is a valid
  * argument, and a call that cannot do what it is asked to do returns a refusal.
  *
- * Every function returns 0, the number of a refusal, or, for runnelopal_run, how the run ended. Further results are stored in the array
+ * The functions return 0, the number of a refusal, or, for runnelopal_run, how the run ended. The two functions about an entry of the log
+ * return a number of the entry. Further results are stored in the array
  * `answer`, in the order that is listed at each function. If `answer` has fewer elements, the results that do not fit are dropped; if it
  * has more, the rest is not changed. After a refusal answer[0] is its place, and all other results are 0.
  */
@@ -61,6 +62,14 @@ extern "C" {
 #define RUNNELOPAL_STATUS_ABSENT 4    /* the index does not name a register */
 #define RUNNELOPAL_STATUS_IGNORED 5   /* the register does not accept the value; the write is ignored */
 
+/* Owner of a port: the block that answers there. It depends on the configuration of the device. An answer names the owner at the moment of
+ * the access. */
+#define RUNNELOPAL_OWNER_NOBODY 0        /* no block claims the port */
+#define RUNNELOPAL_OWNER_CONFIGURATION 1 /* 002Eh and 002Fh */
+#define RUNNELOPAL_OWNER_ACPI 2          /* AC00h to AC1Fh */
+#define RUNNELOPAL_OWNER_MONITOR 3       /* runtime base + 70h and + 71h */
+#define RUNNELOPAL_OWNER_KEY 4           /* key base to key base + 31 */
+
 /* Compiles a script into the image buffer. Returns 0, or a refusal from 1 to 9, which leaves the buffer unchanged. The image is
  * RUNNELOPAL_RECORD bytes for each word; the rest of the buffer is not changed.
  * answer: place of the refusal, number of words */
@@ -68,22 +77,27 @@ uint32_t runnelopal_compile(const uint8_t *script, size_t script_bytes, uint8_t 
                             uint64_t *answer, size_t answer_count);
 
 /* Runs an image on a fresh device, from its first word. `events` are the outside events; the next one is applied before each register
- * access. `budget` is the greatest number of words to execute. Each read of the image appends its value to `log`. The device after the
- * run is saved in `state` if that is RUNNELOPAL_STATE bytes long; otherwise `state` is not changed.
+ * access. `budget` is the greatest number of words to execute. Each read of the image appends an entry to `log`: the value and the owner of
+ * the port, which runnelopal_entry_value and runnelopal_entry_owner return. The device after the run is saved in `state` if that is
+ * RUNNELOPAL_STATE bytes long; otherwise `state` is not changed.
  * Returns how the run ended (0 or 19 to 24), or refusal 10 or 12, which leaves `log` and `state` unchanged.
  * answer: place of the refusal, words executed, events applied, values logged, place of the sequencer: the index of
  * the next word, or of the halt */
 uint32_t runnelopal_run(const uint8_t *image, size_t image_bytes, const uint32_t *events, size_t event_count,
-                        uint32_t budget, uint32_t *log, size_t log_count, uint8_t *state, size_t state_bytes,
+                        uint32_t budget, uint64_t *log, size_t log_count, uint8_t *state, size_t state_bytes,
                         uint64_t *answer, size_t answer_count);
+
+/* The value and the owner of an entry of the log: its low 32 bits, and the bits above them. Every number is a valid argument. */
+uint32_t runnelopal_entry_value(uint64_t entry);
+uint32_t runnelopal_entry_owner(uint64_t entry);
 
 /* Saves a fresh device in `state`. Returns 0, or refusal 11 if `state` is not RUNNELOPAL_STATE bytes long. */
 uint32_t runnelopal_fresh(uint8_t *state, size_t state_bytes);
 
 /* Makes one access to the saved device in `state`: a read or a write of `width` bytes (1, 2 or 4) at a port from 0 to FFFFh. `value` is
  * the value to write; a read does not use it. Returns 0, or refusal 11 or 4, which leaves `state` unchanged.
- * answer: place of the refusal, status, value read (0 for a write), and the outputs after the access, each 0 or 1: SCI, SMI, monitor
- * interrupt */
+ * answer: place of the refusal, status, value read (0 for a write), the outputs after the access, each 0 or 1: SCI, SMI, monitor
+ * interrupt, and the owner of the port */
 uint32_t runnelopal_access(uint8_t *state, size_t state_bytes, bool write, uint32_t width, uint32_t port,
                            uint32_t value, uint64_t *answer, size_t answer_count);
 

@@ -55,32 +55,59 @@ impl Denial {
     }
 }
 
+/// The block that owns a port, with the number that answers and log entries give it.
+#[derive(Clone, Copy, Debug, PartialEq, Eq, PartialOrd, Ord)]
+pub enum Owner {
+    /// No block claims the port.
+    Nobody = 0,
+    Configuration = 1,
+    Acpi = 2,
+    Monitor = 3,
+    Key = 4,
+}
+
+impl Owner {
+    pub fn number(self) -> u32 {
+        self as u32
+    }
+}
+
+/// The whole answer to an access. The owner is named at every status, so that status 1 of a block
+/// that does not take the access differs from status 1 of a port that no block claims.
 #[derive(Clone, Copy, Debug, PartialEq, Eq)]
 pub struct Answer {
     pub status: u32,
     pub value: u32,
+    pub owner: Owner,
 }
 
 impl Answer {
-    fn to_read(result: Result<u32, Denial>, width: Width) -> Answer {
-        match result {
-            Ok(value) => Answer { status: 0, value },
-            Err(denial) => Answer {
-                status: denial.status(),
-                value: match denial {
-                    Denial::Unclaimed => width.all_ones(),
-                    _ => 0,
-                },
-            },
+    fn to_read(owner: Owner, result: Result<u32, Denial>, width: Width) -> Answer {
+        let (status, value) = match result {
+            Ok(value) => (0, value),
+            Err(Denial::Unclaimed) => (Denial::Unclaimed.status(), width.all_ones()),
+            Err(denial) => (denial.status(), 0),
+        };
+        Answer {
+            status,
+            value,
+            owner,
         }
     }
 
     /// The answer to a write has the value 0.
-    fn to_write(result: Result<(), Denial>) -> Answer {
+    fn to_write(owner: Owner, result: Result<(), Denial>) -> Answer {
         Answer {
             status: result.map_or_else(Denial::status, |()| 0),
             value: 0,
+            owner,
         }
+    }
+
+    /// The entry that a read with this answer leaves in the log: the value in the low 32 bits, the
+    /// owner above.
+    pub fn log_entry(self) -> u64 {
+        u64::from(self.owner.number()) << 32 | u64::from(self.value)
     }
 }
 
@@ -112,14 +139,21 @@ pub struct Outputs {
     pub monitor: bool,
 }
 
-/// One access of a run with its whole answer: status, value and the outputs after it. A test
-/// counts as a read.
+/// What a run does at a port. Only a read is logged.
+#[derive(Clone, Copy, Debug, PartialEq, Eq)]
+pub enum Action {
+    /// With the value written.
+    Write(u32),
+    Read,
+    Test,
+}
+
+/// One access of a run with its whole answer: status, value and owner, and the outputs after it.
 #[derive(Clone, Copy, Debug, PartialEq, Eq)]
 pub struct Access {
+    pub action: Action,
     pub width: Width,
     pub port: u16,
-    /// The value of a write; none for a read.
-    pub written: Option<u32>,
     pub answer: Answer,
     pub outputs: Outputs,
 }
@@ -166,9 +200,9 @@ impl Event {
     }
 }
 
-/// The block that answers at a port.
+/// What a port reaches in the block that owns it.
 #[derive(Clone, Copy, Debug, PartialEq, Eq)]
-enum Owner {
+enum Claim {
     ConfigurationIndex,
     ConfigurationData,
     /// With the offset from AC00h.
@@ -177,6 +211,22 @@ enum Owner {
     MonitorData,
     /// With the number of the key byte.
     Key(usize),
+}
+
+impl Claim {
+    fn owner(self) -> Owner {
+        match self {
+            Claim::ConfigurationIndex | Claim::ConfigurationData => Owner::Configuration,
+            Claim::Acpi(_) => Owner::Acpi,
+            Claim::MonitorIndex | Claim::MonitorData => Owner::Monitor,
+            Claim::Key(_) => Owner::Key,
+        }
+    }
+
+    /// Only the ACPI block takes widths other than 1. Which ones depends on the offset.
+    fn takes(self, width: Width) -> bool {
+        width == Width::One || matches!(self, Claim::Acpi(_))
+    }
 }
 
 #[derive(Clone, Debug, PartialEq, Eq)]
@@ -241,17 +291,19 @@ impl Device {
 
     /// A read, followed by settling. The device is in range before and after it.
     pub fn answer_read(&mut self, width: Width, port: u16) -> Answer {
-        let result = self.read(width, port);
+        let claim = self.claim(port);
+        let result = self.read(claim, width);
         self.acpi.settle();
-        Answer::to_read(result, width)
+        Answer::to_read(owner(claim), result, width)
     }
 
     /// A write whose value fits the width, followed by settling. The device is in range before and
     /// after it.
     pub fn answer_write(&mut self, width: Width, port: u16, value: u32) -> Answer {
-        let result = self.write(width, port, value);
+        let claim = self.claim(port);
+        let result = self.write(claim, width, value);
         self.acpi.settle();
-        Answer::to_write(result)
+        Answer::to_write(owner(claim), result)
     }
 
     /// An event, followed by settling. The device is in range before and after it.
@@ -269,57 +321,48 @@ impl Device {
         Ok((width, port))
     }
 
-    /// Blocks claim an access by its first port, in this order. The first one answers. Only the
-    /// ACPI block takes widths other than 1.
-    fn owner(&self, width: Width, port: u16) -> Result<Owner, Denial> {
-        let owner = self.claim(port).ok_or(Denial::Unclaimed)?;
-        match owner {
-            Owner::Acpi(_) => Ok(owner),
-            _ if width == Width::One => Ok(owner),
-            _ => Err(Denial::Unclaimed),
-        }
-    }
-
-    fn claim(&self, port: u16) -> Option<Owner> {
+    /// Blocks claim an access by its first port, in this order. The first one owns the port: it
+    /// answers, and the answer names it. Each access asks once, before it changes anything.
+    fn claim(&self, port: u16) -> Option<Claim> {
         match port {
-            configuration::INDEX_PORT => return Some(Owner::ConfigurationIndex),
-            configuration::DATA_PORT => return Some(Owner::ConfigurationData),
-            acpi::BASE_PORT..=acpi::LAST_PORT => return Some(Owner::Acpi(port - acpi::BASE_PORT)),
+            configuration::INDEX_PORT => return Some(Claim::ConfigurationIndex),
+            configuration::DATA_PORT => return Some(Claim::ConfigurationData),
+            acpi::BASE_PORT..=acpi::LAST_PORT => return Some(Claim::Acpi(port - acpi::BASE_PORT)),
             _ => {}
         }
         let offset_from = |base: Option<u16>| base.and_then(|base| port.checked_sub(base));
         match offset_from(self.configuration.monitor_port()) {
-            Some(0) => return Some(Owner::MonitorIndex),
-            Some(1) => return Some(Owner::MonitorData),
+            Some(0) => return Some(Claim::MonitorIndex),
+            Some(1) => return Some(Claim::MonitorData),
             _ => {}
         }
         let offset = usize::from(offset_from(self.configuration.key_port())?);
-        (offset < KEY_BYTES).then_some(Owner::Key(offset))
+        (offset < KEY_BYTES).then_some(Claim::Key(offset))
     }
 
-    fn read(&mut self, width: Width, port: u16) -> Result<u32, Denial> {
-        let byte = match self.owner(width, port)? {
-            Owner::Acpi(offset) => return self.acpi.read(offset, width),
-            Owner::ConfigurationIndex => self.configuration.read_index(),
-            Owner::ConfigurationData => self.configuration.read_data(),
-            Owner::MonitorIndex => Ok(self.monitor.index),
-            Owner::MonitorData => self.monitor.read_data(),
-            Owner::Key(_) if self.configuration.key_read_locked() => Err(Denial::Blocked),
-            Owner::Key(number) => Ok(self.key[number]),
+    fn read(&mut self, claim: Option<Claim>, width: Width) -> Result<u32, Denial> {
+        let byte = match taken(claim, width)? {
+            Claim::Acpi(offset) => return self.acpi.read(offset, width),
+            Claim::ConfigurationIndex => self.configuration.read_index(),
+            Claim::ConfigurationData => self.configuration.read_data(),
+            Claim::MonitorIndex => Ok(self.monitor.index),
+            Claim::MonitorData => self.monitor.read_data(),
+            Claim::Key(_) if self.configuration.key_read_locked() => Err(Denial::Blocked),
+            Claim::Key(number) => Ok(self.key[number]),
         };
         byte.map(u32::from)
     }
 
-    fn write(&mut self, width: Width, port: u16, value: u32) -> Result<(), Denial> {
+    fn write(&mut self, claim: Option<Claim>, width: Width, value: u32) -> Result<(), Denial> {
         let byte = (value & 0xFF) as u8;
-        match self.owner(width, port)? {
-            Owner::Acpi(offset) => return self.acpi.write(offset, width, value),
-            Owner::ConfigurationIndex => return self.configuration.write_index(byte),
-            Owner::ConfigurationData => return self.configuration.write_data(byte),
-            Owner::MonitorIndex => self.monitor.index = byte,
-            Owner::MonitorData => return self.monitor.write_data(byte),
-            Owner::Key(_) if self.configuration.key_write_locked() => return Err(Denial::Blocked),
-            Owner::Key(number) => self.key[number] = byte,
+        match taken(claim, width)? {
+            Claim::Acpi(offset) => return self.acpi.write(offset, width, value),
+            Claim::ConfigurationIndex => return self.configuration.write_index(byte),
+            Claim::ConfigurationData => return self.configuration.write_data(byte),
+            Claim::MonitorIndex => self.monitor.index = byte,
+            Claim::MonitorData => return self.monitor.write_data(byte),
+            Claim::Key(_) if self.configuration.key_write_locked() => return Err(Denial::Blocked),
+            Claim::Key(number) => self.key[number] = byte,
         }
         Ok(())
     }
@@ -355,4 +398,16 @@ impl Device {
             self.pin_levels = [false; PIN_COUNT];
         }
     }
+}
+
+fn owner(claim: Option<Claim>) -> Owner {
+    claim.map_or(Owner::Nobody, Claim::owner)
+}
+
+/// The claim, if there is one and its block takes the width. A wrong width changes the status but
+/// not the owner.
+fn taken(claim: Option<Claim>, width: Width) -> Result<Claim, Denial> {
+    claim
+        .filter(|claim| claim.takes(width))
+        .ok_or(Denial::Unclaimed)
 }

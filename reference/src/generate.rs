@@ -266,6 +266,23 @@ impl Generator {
         self.line(&line);
     }
 
+    /// A read, or a write of a value that fits the width.
+    fn poke(&mut self, width: u32, port: u32) {
+        if self.random.one_in(2) {
+            self.read(width, port);
+        } else {
+            let value = self.random.bits(8 * width);
+            self.write(width, port, value);
+        }
+    }
+
+    /// For a port of a block that takes width 1 only: the block owns the port, but does not take
+    /// the access.
+    fn poke_too_wide(&mut self, port: u32) {
+        let width = self.random.pick(&[2, 4]);
+        self.poke(width, port);
+    }
+
     fn event(&mut self, kind: u32, operand: u32) {
         let line = self.event_line(kind << 24 | operand);
         self.line(&line);
@@ -348,12 +365,13 @@ impl Generator {
         }
     }
 
-    fn key_base(&mut self) -> u32 {
+    /// A key base for a device with this runtime base.
+    fn key_base(&mut self, runtime_base: [u8; 2]) -> u32 {
         match self.random.below(8) {
             0 => self.random.bits(16),
             // On the two ports of the monitor.
             1 => {
-                let runtime = u16::from_be_bytes(self.device().configuration.runtime_base);
+                let runtime = u16::from_be_bytes(runtime_base);
                 u32::from(runtime & 0xFF80) | 0x60 | self.random.below(32)
             }
             _ => self.random.pick(&KEY_BASES),
@@ -370,7 +388,7 @@ impl Generator {
             self.configure(0x61, base & 0xFF);
         }
         if which != 1 {
-            let base = self.key_base();
+            let base = self.key_base(self.device().configuration.runtime_base);
             self.configure(0x62, base >> 8);
             self.configure(0x63, base & 0xFF);
         }
@@ -435,11 +453,13 @@ impl Generator {
                 .random
                 .pick(&[0, 0, 1, 13, 14, 15, 16, 17, 30, 31, 31, 32]);
             let port = u32::from(base) + offset;
-            if self.random.one_in(3) {
-                self.read(1, port);
-            } else {
-                let value = self.random.bits(8);
-                self.write(1, port, value);
+            match self.random.below(12) {
+                0 | 1 => self.poke_too_wide(port),
+                2..=5 => self.read(1, port),
+                _ => {
+                    let value = self.random.bits(8);
+                    self.write(1, port, value);
+                }
             }
         }
     }
@@ -470,10 +490,14 @@ impl Generator {
                 0x40 => self.random.pick(&[0x00, 0x01, 0xFD, 0x02, 0xFF]),
                 _ => self.random.bits(8),
             };
-            match self.random.below(10) {
+            match self.random.below(11) {
                 0 => self.read(1, port),
                 1 => self.write(1, port, index),
-                2..=4 => {
+                2 => {
+                    let either = port + self.random.below(2);
+                    self.poke_too_wide(either);
+                }
+                3..=5 => {
                     self.write(1, port, index);
                     self.read(1, port + 1);
                 }
@@ -573,12 +597,7 @@ impl Generator {
         for _ in 0..=self.random.below(4) {
             let offset = self.random.below(32);
             let width = self.random.pick(&[1, 2, 4]);
-            if self.random.one_in(2) {
-                self.read(width, ACPI_PORT + offset);
-            } else {
-                let value = self.random.bits(8 * width);
-                self.write(width, ACPI_PORT + offset, value);
-            }
+            self.poke(width, ACPI_PORT + offset);
         }
     }
 
@@ -755,15 +774,33 @@ impl Generator {
         }
     }
 
-    /// Loads the present state with another timer, mostly near a change of bit 23, and mostly with
+    /// Loads the present state with another timer.
+    fn load_timer(&mut self) {
+        let device = self.with_timer();
+        self.load(&state::encode(&device));
+    }
+
+    /// Loads the present state with another timer, and mostly with the monitor and the key active
+    /// at other ports, so that the runs after it find all blocks.
+    pub fn load_timer_and_place(&mut self) {
+        let mut device = self.with_timer();
+        if !self.random.one_in(3) {
+            self.place(&mut device);
+            device.configuration.activate = 1;
+            device.monitor.index = self.monitor_index() as u8;
+        }
+        self.load(&state::encode(&device));
+    }
+
+    /// The present device with another timer, mostly near a change of bit 23, and mostly with
     /// TMR_STS clear.
-    pub fn load_timer(&mut self) {
+    fn with_timer(&mut self) -> Device {
         let mut device = self.device().clone();
         device.acpi.timer = self.random.pick(&TIMERS);
         if !self.random.one_in(4) {
             device.acpi.pm1_status &= !(TMR_STS as u16);
         }
-        self.load(&state::encode(&device));
+        device
     }
 
     /// Loads a timer, then applies ticks. TMR_STS is often shown and cleared between two events, so
@@ -894,12 +931,7 @@ impl Generator {
         for _ in 0..=self.random.below(3) {
             let port = self.edge_port();
             let width = self.random.pick(&[1, 1, 1, 1, 2, 4]);
-            if self.random.one_in(2) {
-                self.read(width, port);
-            } else {
-                let value = self.random.bits(8 * width);
-                self.write(width, port, value);
-            }
+            self.poke(width, port);
         }
     }
 
@@ -912,6 +944,14 @@ impl Generator {
             2 => (self.random.next() & self.random.next()) as u16 & mask,
             _ => self.random.next() as u16 & mask,
         }
+    }
+
+    /// Gives the device bases from the lists, and any key control.
+    fn place(&mut self, device: &mut Device) {
+        let configuration = &mut device.configuration;
+        configuration.runtime_base = (self.runtime_base() as u16).to_be_bytes();
+        configuration.key_base = (self.key_base(configuration.runtime_base) as u16).to_be_bytes();
+        configuration.key_control = self.random.below(8) as u8;
     }
 
     /// A state in range, settled or not.
@@ -930,9 +970,7 @@ impl Generator {
             }
             configuration.device_number = self.random.pick(&[0x0A, 0x0A, 0x0A, 0x00, 0xAA, 0x55]);
             configuration.activate = self.random.pick(&[1, 1, 1, 0]);
-            configuration.runtime_base = (self.runtime_base() as u16).to_be_bytes();
-            device.configuration.key_base = (self.key_base() as u16).to_be_bytes();
-            device.configuration.key_control = self.random.below(8) as u8;
+            self.place(&mut device);
         }
         if whole || self.random.one_in(3) {
             for byte in &mut device.key {

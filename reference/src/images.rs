@@ -17,7 +17,7 @@ pub const IMAGES: Source = Source {
         (100, Generator::run_image),
         (3, Generator::make_fresh),
         (6, Generator::load_good),
-        (24, Generator::load_timer),
+        (24, Generator::load_timer_and_place),
         (4, Generator::run_on_broken_device),
         (3, Generator::run_script),
         (2, Generator::set_sequencer),

@@ -21,6 +21,8 @@ pub mod stream;
 #[cfg(test)]
 mod compiler_tests;
 #[cfg(test)]
+mod owner_tests;
+#[cfg(test)]
 mod run_tests;
 #[cfg(test)]
 mod tests;

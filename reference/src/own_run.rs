@@ -2,7 +2,7 @@
 //! and no log size, and shares no code with the compiler or the sequencer.
 
 use crate::compiler::{Record, DELAY, ELSE, END, IF, READ, RECORD_BYTES, REPEAT, WRITE};
-use crate::device::{Access, Answer, Device, Event, Width};
+use crate::device::{Access, Action, Answer, Device, Event, Width};
 
 /// A record with the records inside it.
 #[derive(Clone, Debug, PartialEq, Eq)]
@@ -108,7 +108,8 @@ fn width_of(record: &Record) -> Width {
 pub struct OwnRun<'a> {
     pub device: Device,
     pub events_left: &'a [u32],
-    pub values: Vec<u32>,
+    /// The log: an entry for each read.
+    pub entries: Vec<u64>,
     pub accesses: Vec<Access>,
     pub steps: u64,
 }
@@ -126,7 +127,7 @@ pub fn own_run<'a>(
         held: OwnRun {
             device: device.clone(),
             events_left: events,
-            values: Vec::new(),
+            entries: Vec::new(),
             accesses: Vec::new(),
             steps: 0,
         },
@@ -160,11 +161,11 @@ impl Walk<'_> {
             Node::Write { width, port, value } => {
                 self.next_event();
                 let answer = self.held.device.answer_write(*width, *port, *value);
-                self.list(*width, *port, Some(*value), answer);
+                self.list(Action::Write(*value), *width, *port, answer);
             }
             Node::Read { width, port } => {
-                let value = self.read(*width, *port);
-                self.held.values.push(value);
+                let answer = self.read(Action::Read, *width, *port);
+                self.held.entries.push(answer.log_entry());
             }
             Node::Delay(ticks) => self.held.device.happen(Event::Ticks(*ticks)),
             Node::Repeat { times, body } => {
@@ -180,7 +181,8 @@ impl Walk<'_> {
                 then_part,
                 else_part,
             } => {
-                let shared = self.read(*width, *port) & mask != 0;
+                let answer = self.read(Action::Test, *width, *port);
+                let shared = answer.value & mask != 0;
                 match (shared, else_part) {
                     (true, None) => self.body(then_part)?,
                     (true, Some(_)) => {
@@ -195,12 +197,12 @@ impl Walk<'_> {
         Some(())
     }
 
-    /// The value of a read or a test, at any status.
-    fn read(&mut self, width: Width, port: u16) -> u32 {
+    /// A read or a test. Its value and its owner are used at any status.
+    fn read(&mut self, action: Action, width: Width, port: u16) -> Answer {
         self.next_event();
         let answer = self.held.device.answer_read(width, port);
-        self.list(width, port, None, answer);
-        answer.value
+        self.list(action, width, port, answer);
+        answer
     }
 
     fn next_event(&mut self) {
@@ -211,11 +213,11 @@ impl Walk<'_> {
         }
     }
 
-    fn list(&mut self, width: Width, port: u16, written: Option<u32>, answer: Answer) {
+    fn list(&mut self, action: Action, width: Width, port: u16, answer: Answer) {
         self.held.accesses.push(Access {
+            action,
             width,
             port,
-            written,
             answer,
             outputs: self.held.device.outputs(),
         });

@@ -11,10 +11,19 @@ const INDEX_PORT: u16 = 0x2E;
 const DATA_PORT: u16 = 0x2F;
 const ACPI_PORT: u16 = 0xAC00;
 
-/// The bases that a script gives the monitor and the key, unless the device has active ones
-/// already.
-const MONITOR_PORT: u16 = 0x0A70;
-const KEY_PORT: u16 = 0x0100;
+/// Where a script places the monitor and the key, unless the device has active ones already: the
+/// port of the monitor index and the port of key byte 0. In some the ports of the monitor or of the
+/// configuration are also in the range of the key, which does not own them.
+const PLACEMENTS: [(u16, u16); 8] = [
+    (0x0A70, 0x0100),
+    (0x0A70, 0x0100),
+    (0x0A70, 0x0100),
+    (0x0A70, 0x0100),
+    (0x0A70, 0x0A60),
+    (0x00F0, 0x00E0),
+    (0x0A70, 0x0020),
+    (0x0A70, 0x0020),
+];
 
 /// ACPI offsets, each with the width that it takes.
 const ACPI_REGISTERS: [(u16, u8); 12] = [
@@ -32,10 +41,15 @@ const ACPI_REGISTERS: [(u16, u8); 12] = [
     (24, 4),
 ];
 
-const CONFIGURATION_REGISTERS: [u32; 9] = [0x07, 0x07, 0x30, 0x60, 0x61, 0x62, 0x63, 0xF2, 0xF2];
-const MONITOR_REGISTERS: [u32; 14] = [
-    0x40, 0x6E, 0x7C, 0x7C, 0x7E, 0x7E, 0x80, 0x81, 0x83, 0x83, 0x84, 0x90, 0xB5, 0x41,
+/// Registers of the configuration, and an index that names none.
+const CONFIGURATION_INDICES: [u32; 10] =
+    [0x07, 0x07, 0x30, 0x60, 0x61, 0x62, 0x63, 0xF2, 0xF2, 0x31];
+
+/// Registers of the monitor, and indices that name none.
+const MONITOR_INDICES: [u32; 16] = [
+    0x40, 0x6E, 0x7C, 0x7C, 0x7E, 0x7E, 0x80, 0x81, 0x83, 0x83, 0x84, 0x90, 0xB5, 0x41, 0x41, 0x89,
 ];
+
 const SETUP_INDICES: [u32; 12] = [
     0x00, 0x10, 0x11, 0x12, 0x13, 0x14, 0x15, 0x16, 0x17, 0x40, 0x41, 0x42,
 ];
@@ -63,12 +77,11 @@ pub struct Programs<'a> {
 impl<'a> Programs<'a> {
     pub fn new(random: &'a mut Random, device: &Device) -> Self {
         let configuration = &device.configuration;
-        let monitor_port = configuration.monitor_port().unwrap_or(MONITOR_PORT);
-        let key_port = configuration.key_port().unwrap_or(KEY_PORT);
+        let (monitor_port, key_port) = random.pick(&PLACEMENTS);
         Programs {
             random,
-            monitor_port,
-            key_port,
+            monitor_port: configuration.monitor_port().unwrap_or(monitor_port),
+            key_port: configuration.key_port().unwrap_or(key_port),
             timer: device.acpi.timer,
         }
     }
@@ -177,16 +190,16 @@ impl<'a> Programs<'a> {
 
     /// One record, or a few that belong together.
     fn statement(&mut self, script: &mut Vec<Record>) {
-        match self.random.below(16) {
+        match self.random.below(17) {
             0 => script.push(write(1, INDEX_PORT, 0x55)),
             1 => {
-                let index = self.random.pick(&CONFIGURATION_REGISTERS);
+                let index = self.random.pick(&CONFIGURATION_INDICES);
                 script.push(write(1, INDEX_PORT, index));
                 script.push(self.configuration_data(index));
             }
             2 if self.random.one_in(2) => self.place_blocks(script),
             2 | 3 => {
-                let index = self.random.pick(&MONITOR_REGISTERS);
+                let index = self.random.pick(&MONITOR_INDICES);
                 script.push(write(1, self.monitor_port, index));
                 script.push(self.monitor_data());
             }
@@ -207,7 +220,20 @@ impl<'a> Programs<'a> {
             10 | 11 => script.push(self.status_read()),
             12 | 13 => self.delay(script),
             14 => script.push(self.wild_access()),
+            15 => self.read_again(script),
             _ => script.push(read(1, INDEX_PORT)),
+        }
+    }
+
+    /// Reads one port of the monitor or the key several times. An event between two of the reads
+    /// can change the owner.
+    fn read_again(&mut self, script: &mut Vec<Record>) {
+        let port = match self.random.below(2) {
+            0 => self.monitor_port + self.random.below(2) as u16,
+            _ => self.key_port + self.random.below(32) as u16,
+        };
+        for _ in 0..2 + self.random.below(4) {
+            script.push(read(1, port));
         }
     }
 
@@ -238,12 +264,12 @@ impl<'a> Programs<'a> {
             0 => write(1, INDEX_PORT, 0x55),
             1 => read(1, INDEX_PORT),
             2 => {
-                let index = self.random.pick(&CONFIGURATION_REGISTERS);
+                let index = self.random.pick(&CONFIGURATION_INDICES);
                 write(1, INDEX_PORT, index)
             }
             3 => self.configuration_data(0x07),
             4 => {
-                let index = self.random.pick(&MONITOR_REGISTERS);
+                let index = self.random.pick(&MONITOR_INDICES);
                 write(1, self.monitor_port, index)
             }
             5 => self.monitor_data(),
@@ -286,23 +312,32 @@ impl<'a> Programs<'a> {
         }
     }
 
+    /// Mostly the width that the monitor and the key take. With another one the block still owns
+    /// the port.
+    fn byte_width(&mut self) -> u8 {
+        self.random.pick(&[1, 1, 1, 1, 1, 1, 1, 1, 2, 4])
+    }
+
     fn monitor_data(&mut self) -> Record {
+        let width = self.byte_width();
+        let port = self.monitor_port + 1;
         match self.random.below(3) {
-            0 => read(1, self.monitor_port + 1),
+            0 => read(width, port),
             1 => {
                 let value = self.random.pick(&[0x04, 0x13, 0x01, 0x02, 0x03, 0xFF]);
-                write(1, self.monitor_port + 1, value)
+                write(width, port, value)
             }
-            _ => write(1, self.monitor_port + 1, self.random.bits(8)),
+            _ => write(width, port, self.random.bits(8)),
         }
     }
 
     fn key_access(&mut self) -> Record {
+        let width = self.byte_width();
         let offset = self.random.pick(&[0, 0, 1, 14, 15, 16, 31, 32]);
         let port = self.key_port.wrapping_add(offset);
         match self.random.below(2) {
-            0 => read(1, port),
-            _ => write(1, port, self.random.bits(8)),
+            0 => read(width, port),
+            _ => write(width, port, self.random.bits(8)),
         }
     }
 
@@ -337,14 +372,22 @@ impl<'a> Programs<'a> {
         read(width, ACPI_PORT + offset)
     }
 
-    fn wild_access(&mut self) -> Record {
-        let width = self.random.pick(&[1, 2, 4]);
-        let port = match self.random.below(4) {
+    /// Any port, often one of a block.
+    fn wild_port(&mut self) -> u16 {
+        match self.random.below(6) {
             0 => self.random.next() as u16,
             1 => ACPI_PORT + self.random.below(32) as u16,
             2 => self.random.pick(&[INDEX_PORT, DATA_PORT]),
+            3 => self.monitor_port + self.random.below(2) as u16,
+            4 => self.key_port + self.random.below(32) as u16,
             _ => self.random.pick(&[0, 0x2D, 0x30, 0xABFF, 0xAC20, 0xFFFF]),
-        };
+        }
+    }
+
+    /// Any width at any port. Most are wrong for the block that owns the port.
+    fn wild_access(&mut self) -> Record {
+        let width = self.random.pick(&[1, 2, 4]);
+        let port = self.wild_port();
         match self.random.below(2) {
             0 => read(width, port),
             _ => write(width, port, self.random.bits(8 * u32::from(width))),
@@ -364,7 +407,7 @@ impl<'a> Programs<'a> {
             10 => (1, self.key_port, self.random.bits(8)),
             _ => {
                 let width = self.random.pick(&[1, 2, 4]);
-                let port = self.random.next() as u16;
+                let port = self.wild_port();
                 (width, port, self.random.bits(8 * u32::from(width)))
             }
         };
@@ -408,7 +451,7 @@ impl<'a> Programs<'a> {
             11 => (4, 0),
             12 | 13 => (5, self.random.below(4)),
             14 => (7, 0),
-            _ if self.random.one_in(3) => (6, self.random.below(4)),
+            _ if self.random.one_in(2) => (6, self.random.below(4)),
             _ => (1, 1),
         };
         kind << 24 | operand

@@ -4,7 +4,7 @@ use crate::compiler::{
     compile, Record, DELAY, ELSE, END, ENTER, HALT, IF, JUMP, LOOP_END, READ, RECORD_BYTES, REPEAT,
     SCRIPT_MARK, TEST, WRITE,
 };
-use crate::device::{Access, Answer, Device, Outputs, Width};
+use crate::device::{Access, Action, Answer, Device, Outputs, Owner, Width};
 use crate::generate::{self, Source};
 use crate::images::IMAGES;
 use crate::own_run::own_run;
@@ -13,12 +13,12 @@ use crate::sequencer::{run, Ended, Ending, Lent, Refusal, Sequencer};
 use crate::state;
 use crate::stream::{self, LINE_LIMIT};
 
-const NO_TICK: u32 = 0x0100_0000;
+pub(crate) const NO_TICK: u32 = 0x0100_0000;
 const TICK: u32 = 0x0100_0001;
 const RTC_ALARM: u32 = 0x0300_0000;
-const LENT: u32 = 0xEEEE_EEEE;
+pub(crate) const LENT: u64 = 0xEEEE_EEEE_EEEE_EEEE;
 
-fn record(kind: u8, width: u8, port: u16, value: u32) -> Record {
+pub(crate) fn record(kind: u8, width: u8, port: u16, value: u32) -> Record {
     Record {
         width,
         port,
@@ -41,11 +41,11 @@ fn repeat(times: u32) -> Record {
     record(REPEAT, 0, 0, times)
 }
 
-fn write(port: u16, value: u32) -> Record {
+pub(crate) fn write(port: u16, value: u32) -> Record {
     record(WRITE, 1, port, value)
 }
 
-fn read(port: u16) -> Record {
+pub(crate) fn read(port: u16) -> Record {
     record(READ, 1, port, 0)
 }
 
@@ -53,12 +53,12 @@ fn or_else() -> Record {
     record(ELSE, 0, 0, 0)
 }
 
-fn end() -> Record {
+pub(crate) fn end() -> Record {
     record(END, 0, 0, 0)
 }
 
 /// A read of the timer, which each tick increases by one.
-fn read_timer() -> Record {
+pub(crate) fn read_timer() -> Record {
     record(READ, 4, 0xAC18, 0)
 }
 
@@ -98,7 +98,7 @@ fn bytes(records: &[Record]) -> Vec<u8> {
     records.iter().flat_map(Record::encode).collect()
 }
 
-fn compiled(script: &[Record]) -> Vec<u8> {
+pub(crate) fn compiled(script: &[Record]) -> Vec<u8> {
     let mut image = vec![0; 12_288];
     let words = compile(&bytes(script), &mut image).expect("the script is valid");
     image.truncate(words * RECORD_BYTES);
@@ -117,15 +117,15 @@ fn sequencer(place: u32, counters: &[u32]) -> Sequencer {
 
 /// Everything that a run changes.
 #[derive(Clone, Debug, PartialEq, Eq)]
-struct Left {
-    outcome: Result<Ended, Refusal>,
+pub(crate) struct Left {
+    pub outcome: Result<Ended, Refusal>,
     device: Device,
     sequencer: Sequencer,
-    log: Vec<u32>,
-    accesses: Vec<Access>,
+    pub log: Vec<u64>,
+    pub accesses: Vec<Access>,
 }
 
-fn run_from(
+pub(crate) fn run_from(
     start: Sequencer,
     image: &[u8],
     events: &[u32],
@@ -169,35 +169,50 @@ fn ended(ending: Ending, steps: u64, events_taken: usize, values_logged: usize) 
     }
 }
 
-/// Runs the script on the fresh device, interpreted and compiled, and returns its steps and the
-/// logged values.
-fn run_script(script: &[Record], events: &[u32]) -> (u64, Vec<u32>) {
-    let fresh = Device::fresh();
-    let own = own_run(&bytes(script), &fresh, events, u64::MAX).expect("the steps are not limited");
+pub(crate) fn entry(owner: Owner, value: u32) -> u64 {
+    u64::from(owner.number()) << 32 | u64::from(value)
+}
+
+/// The log of reads at ports of the ACPI block.
+fn acpi_entries(values: &[u32]) -> Vec<u64> {
+    values
+        .iter()
+        .map(|value| entry(Owner::Acpi, *value))
+        .collect()
+}
+
+/// Runs the script on the fresh device.
+fn run_script(script: &[Record], events: &[u32]) -> (u64, Vec<u64>) {
+    run_script_on(&Device::fresh(), script, events)
+}
+
+/// Runs the script, interpreted and compiled, and returns its steps and the entries of its log.
+pub(crate) fn run_script_on(device: &Device, script: &[Record], events: &[u32]) -> (u64, Vec<u64>) {
+    let own = own_run(&bytes(script), device, events, u64::MAX).expect("the steps are not limited");
     let image = compiled(script);
-    let size = own.values.len() + 2;
+    let size = own.entries.len() + 2;
     let budget = u32::try_from(own.steps).expect("the script takes few steps");
-    let left = run_from(Sequencer::fresh(), &image, events, budget, size, &fresh);
+    let left = run_from(Sequencer::fresh(), &image, events, budget, size, device);
     let taken = events.len() - own.events_left.len();
     assert_eq!(
         left.outcome,
-        Ok(ended(Ending::Halted, own.steps, taken, own.values.len()))
+        Ok(ended(Ending::Halted, own.steps, taken, own.entries.len()))
     );
     assert_eq!(left.device, own.device);
     assert_eq!(left.accesses, own.accesses);
     let halt = image.len() / RECORD_BYTES - 1;
     assert_eq!(left.sequencer, sequencer(halt as u32, &[]));
-    assert_eq!(left.log[..own.values.len()], own.values);
-    assert_eq!(left.log[own.values.len()..], [LENT; 2]);
+    assert_eq!(left.log[..own.entries.len()], own.entries);
+    assert_eq!(left.log[own.entries.len()..], [LENT; 2]);
     // The interpreter gives up exactly if the run would take more steps than the limit.
     for limit in [0, own.steps / 2, own.steps - 1] {
-        assert_eq!(own_run(&bytes(script), &fresh, events, limit), None);
+        assert_eq!(own_run(&bytes(script), device, events, limit), None);
     }
     assert_eq!(
-        own_run(&bytes(script), &fresh, events, own.steps).as_ref(),
+        own_run(&bytes(script), device, events, own.steps).as_ref(),
         Some(&own)
     );
-    (own.steps, own.values)
+    (own.steps, own.entries)
 }
 
 #[test]
@@ -215,11 +230,12 @@ fn p11_takes_four_steps_or_three() {
         record(READ, 2, 0x2E, 0),
         end(),
     ];
-    assert_eq!(run_script(&script, &[TICK]), (4, vec![0xFF]));
-    assert_eq!(run_script(&script, &[]), (3, vec![0xFFFF]));
+    let [byte, word] = [0xFF, 0xFFFF].map(|value| entry(Owner::Configuration, value));
+    assert_eq!(run_script(&script, &[TICK]), (4, vec![byte]));
+    assert_eq!(run_script(&script, &[]), (3, vec![word]));
     // Without an else there is no jump after the body of the if.
     let script = [if_timer(1), read(0x2E), end()];
-    assert_eq!(run_script(&script, &[TICK]), (3, vec![0xFF]));
+    assert_eq!(run_script(&script, &[TICK]), (3, vec![byte]));
     assert_eq!(run_script(&script, &[]), (2, vec![]));
 }
 
@@ -237,7 +253,10 @@ fn tracing_script() -> [Record; 7] {
 
 #[test]
 fn tracing_script_logs_the_key_control() {
-    assert_eq!(run_script(&tracing_script(), &[]), (8, vec![4, 0xFF]));
+    let expected = [0x04, 0xFF].map(|value| entry(Owner::Configuration, value));
+    assert_eq!(run_script(&tracing_script(), &[]), (8, expected.to_vec()));
+    let printed = expected.map(|entry| format!("{entry:016X}"));
+    assert_eq!(printed, ["0000000100000004", "00000001000000FF"]);
 }
 
 #[test]
@@ -249,14 +268,17 @@ fn empty_and_nested_scripts() {
     assert_eq!(run_script(&[repeat(65_535), end()], &[]), (65_537, vec![]));
     // Eight nested repeats of two turns each: 2 + 4 + .. + 256 turns, 1 + 2 + .. + 128 enters.
     let deep = [vec![repeat(2); 8], vec![read(0x2E)], vec![end(); 8]].concat();
-    let (steps, values) = run_script(&deep, &[]);
-    assert_eq!((steps, values.len()), (510 + 255 + 256 + 1, 256));
+    let (steps, entries) = run_script(&deep, &[]);
+    assert_eq!((steps, entries.len()), (510 + 255 + 256 + 1, 256));
     // Sixteen nested ifs, each with an else.
     let mut ladder = vec![if_timer(1); 16];
     ladder.extend([or_else(), read_timer(), end()].repeat(16));
     assert_eq!(run_script(&ladder, &[TICK]), (33, vec![]));
-    assert_eq!(run_script(&ladder, &[]), (3, vec![0]));
-    assert_eq!(run_script(&ladder, &[0x0100_0002, TICK]), (3, vec![3]));
+    assert_eq!(run_script(&ladder, &[]), (3, acpi_entries(&[0])));
+    assert_eq!(
+        run_script(&ladder, &[0x0100_0002, TICK]),
+        (3, acpi_entries(&[3]))
+    );
 }
 
 #[test]
@@ -274,11 +296,11 @@ fn events_come_before_accesses() {
     ];
     // A delay takes no event from the list; a write and a test do.
     let events = [TICK; 5];
-    let (steps, values) = run_script(&script, &events);
-    assert_eq!((steps, values), (11, vec![0x11, 0x15, 0x15]));
+    let expected = acpi_entries(&[0x11, 0x15, 0x15]);
+    assert_eq!(run_script(&script, &events), (11, expected));
     let more = [TICK; 9];
-    let (_, values) = run_script(&script, &more);
-    assert_eq!(values, [0x11, 0x15, 0x16]);
+    let (_, entries) = run_script(&script, &more);
+    assert_eq!(entries, acpi_entries(&[0x11, 0x15, 0x16]));
 }
 
 /// From the fresh device, TMR_STS is set at 800000h and again when the timer wraps to 0.
@@ -286,7 +308,7 @@ fn events_come_before_accesses() {
 fn delays_and_events_set_the_timer_status() {
     let two_before = [repeat(255), delay(0x8000), end(), delay(0x7FFE)];
     let clear = record(WRITE, 2, 0xAC08, 0x0001);
-    let expected = [0, 1, 0, 0x80_0000, 0, 1, 0, 0];
+    let expected = acpi_entries(&[0, 1, 0, 0x80_0000, 0, 1, 0, 0]);
 
     let by_delays = [
         delay(1),
@@ -333,23 +355,40 @@ fn accesses_are_listed_with_their_whole_answers() {
     );
     assert_eq!(left.outcome, Ok(ended(Ending::Halted, 6, 2, 2)));
     assert_eq!(left.device.acpi.cpu_state, 0);
-    let access = |width, port, written, status, value, smi| Access {
+    let access = |action, width, port, (status, value, owner), smi| Access {
+        action,
         width,
         port,
-        written,
-        answer: Answer { status, value },
+        answer: Answer {
+            status,
+            value,
+            owner,
+        },
         outputs: Outputs {
             sci: false,
             smi,
             monitor: false,
         },
     };
+    let (acpi, configuration) = (Owner::Acpi, Owner::Configuration);
     let expected = [
-        access(Width::Two, 0xAC0A, Some(0x0400), 0, 0, false),
-        access(Width::Two, 0xAC08, None, 0, 0x0400, true),
-        access(Width::One, 0xAC06, Some(3), 5, 0, true),
-        access(Width::One, 0xAC04, None, 0, 0, true),
-        access(Width::Two, 0x2E, None, 1, 0xFFFF, true),
+        access(
+            Action::Write(0x0400),
+            Width::Two,
+            0xAC0A,
+            (0, 0, acpi),
+            false,
+        ),
+        access(Action::Test, Width::Two, 0xAC08, (0, 0x0400, acpi), true),
+        access(Action::Write(3), Width::One, 0xAC06, (5, 0, acpi), true),
+        access(Action::Read, Width::One, 0xAC04, (0, 0, acpi), true),
+        access(
+            Action::Read,
+            Width::Two,
+            0x2E,
+            (1, 0xFFFF, configuration),
+            true,
+        ),
     ];
     assert_eq!(left.accesses, expected);
     run_script(&script, &events);
@@ -387,7 +426,7 @@ fn budget_is_looked_at_first() {
     assert_eq!(full.outcome, Ok(ended(Ending::LogFull, 3, 1, 1)));
     assert_eq!(full.sequencer, sequencer(1, &[1]));
     assert_eq!(full.device.acpi.timer, 1);
-    assert_eq!(full.log, [1]);
+    assert_eq!(full.log, acpi_entries(&[1]));
     // A spent budget also comes before a wrong place and a bad word.
     let bad = [Record::default()];
     for place in [0, 1, u32::MAX] {
@@ -649,7 +688,7 @@ fn refusals_of_runs_come_in_order() {
 
 // Commands.
 
-fn answers_to(mut input: &[u8]) -> String {
+pub(crate) fn answers_to(mut input: &[u8]) -> String {
     let mut output = Vec::new();
     stream::answer_all(&mut input, &mut output).expect("writing to memory does not fail");
     String::from_utf8(output).expect("answers are text")
@@ -676,9 +715,10 @@ fn run_commands() {
     device.configuration.device_number = 0x0A;
     let after = hex(&state::encode(&device));
     let none = "0 0 0 0 0 0 0 0 0";
+    let log = "000000010000000400000001000000FFA000000000000002";
     assert_eq!(
         answers(&format!("T 186A0 3 - {script}\nS")),
-        format!("ENDED 0 8 0 2 7 {none} {after} 00000004000000FFA0000002\nSTATE {after}\n")
+        format!("ENDED 0 8 0 2 7 {none} {after} {log}\nSTATE {after}\n")
     );
     assert_eq!(
         answers("T 1 0 - -"),
@@ -686,7 +726,14 @@ fn run_commands() {
     );
     assert_eq!(
         answers("T 0 2 00000001 -"),
-        format!("ENDED 19 0 0 0 0 {none} {fresh} A0000000A0000001\n")
+        format!("ENDED 19 0 0 0 0 {none} {fresh} A000000000000000A000000000000001\n")
+    );
+    // The example of docs/CASES.md: reset 1 before the first read.
+    let reset = "0000000100000001000000010000000101000006";
+    let log = "00000001000000FF00000001000000FFA000000000000002A000000000000003";
+    assert_eq!(
+        answers(&format!("T 64 4 {reset} {script}")),
+        format!("ENDED 0 8 5 2 7 {none} {fresh} {log}\n")
     );
     // One read of the timer, one event before it.
     let read = hex(&bytes(&[read_timer()]));
@@ -695,7 +742,7 @@ fn run_commands() {
     let after = hex(&state::encode(&ticked));
     assert_eq!(
         answers(&format!("T ff 1 3412000100000003 {read}")),
-        format!("ENDED 0 2 1 1 1 {none} {after} 00001234\n")
+        format!("ENDED 0 2 1 1 1 {none} {after} 0000000200001234\n")
     );
     // The log is too short; then the image resumes with another log.
     let image = hex(&compiled(&[read_timer()]));
@@ -705,10 +752,10 @@ fn run_commands() {
         )),
         format!(
             "ENDED 24 0 0 0 0 {none} {fresh}\n\
-             ENDED 0 2 1 1 1 {none} {after} 00001234\n\
-             ENDED 0 1 0 0 1 {none} {after} A0000000\n\
+             ENDED 0 2 1 1 1 {none} {after} 0000000200001234\n\
+             ENDED 0 1 0 0 1 {none} {after} A000000000000000\n\
              SET\n\
-             ENDED 19 1 0 1 1 {none} {after} 00001234\n"
+             ENDED 19 1 0 1 1 {none} {after} 0000000200001234\n"
         )
     );
 }
@@ -728,7 +775,7 @@ fn run_commands_that_are_refused() {
         answer.to_string()
     };
     let with = |number: &str, log: &str| format!("REFUSED {number} {shown} {fresh}{log}");
-    assert_eq!(refused("X 9 1 - -"), with("10 0", " A0000000"));
+    assert_eq!(refused("X 9 1 - -"), with("10 0", " A000000000000000"));
     assert_eq!(refused("X 9 0 00000000 00"), with("10 0", ""));
     let halt = hex(&bytes(&[halt()]));
     assert_eq!(
@@ -745,7 +792,7 @@ fn run_commands_that_are_refused() {
     // The refusals of the compiler come first.
     assert_eq!(
         refused("T 9 2 00000000 00"),
-        with("1 0", " A0000000A0000001")
+        with("1 0", " A000000000000000A000000000000001")
     );
     let open = hex(&bytes(&[write(0x2E, 0), repeat(1)]));
     assert_eq!(refused(&format!("T 9 0 00000000 {open}")), with("7 2", ""));
@@ -820,20 +867,22 @@ fn run_commands_that_are_unread() {
     let longest = format!("T 0 0 - {}", "00".repeat(16_384));
     assert_eq!(answers(&longest), format!("REFUSED 1 0 {shown}\n"));
     let log = answers("T FFFFFFFF 800 - -");
-    assert!(log.starts_with(&format!("ENDED 0 1 0 0 {shown} A0000000A0000001")));
-    assert!(log.ends_with("A00007FEA00007FF\n"));
+    assert!(log.starts_with(&format!(
+        "ENDED 0 1 0 0 {shown} A000000000000000A000000000000001"
+    )));
+    assert!(log.ends_with("A0000000000007FEA0000000000007FF\n"));
 }
 
 // Random commands.
 
-fn commands(source: &'static Source, seed: u64, count: u64) -> Vec<u8> {
+pub(crate) fn commands(source: &'static Source, seed: u64, count: u64) -> Vec<u8> {
     let mut commands = Vec::new();
     generate::write_commands(source, seed, count, &mut commands)
         .expect("writing to memory does not fail");
     commands
 }
 
-fn lines(commands: &[u8]) -> impl Iterator<Item = &[u8]> {
+pub(crate) fn lines(commands: &[u8]) -> impl Iterator<Item = &[u8]> {
     commands.split(|byte| *byte == b'\n')
 }
 

@@ -14,7 +14,7 @@ pub const RUNS: Source = Source {
         (100, Generator::run_script),
         (4, Generator::make_fresh),
         (6, Generator::load_good),
-        (16, Generator::load_timer),
+        (16, Generator::load_timer_and_place),
         (4, Generator::run_on_broken_device),
         (3, Generator::set_sequencer),
         (1, Generator::damaged_run),
@@ -50,13 +50,13 @@ impl Generator {
 
     fn script_to_run(&mut self) -> Vec<u8> {
         match self.random.below(40) {
-            0..=21 => self.small_script(),
-            22..=25 => {
+            0..=19 => self.small_script(),
+            20..=23 => {
                 let statements = self.random.below(60);
                 scripts::encode(&self.programs().script(statements))
             }
-            26..=33 => scripts::encode(&self.programs().deep_script()),
-            34 => {
+            24..=31 => scripts::encode(&self.programs().deep_script()),
+            32 => {
                 let words = match self.random.below(4) {
                     0 => self.random.below(WORD_LIMIT as u32) as usize,
                     // Sometimes one word too many.
@@ -65,7 +65,7 @@ impl Generator {
                 };
                 scripts::encode(&self.programs().long_script(words))
             }
-            35..=37 => {
+            33..=35 => {
                 // A valid script with one byte changed. Often it is not valid any more.
                 let mut script = self.small_script();
                 if !script.is_empty() {
@@ -112,14 +112,14 @@ impl Generator {
             8 => u32::MAX,
             _ => steps + self.random.below(1_000),
         };
-        let values = own.values.len();
+        let entries = own.entries.len();
         let size = match self.random.below(24) {
-            0..=2 => values,
-            3 | 4 => values.saturating_sub(1),
+            0..=2 => entries,
+            3 | 4 => entries.saturating_sub(1),
             5 => 0,
-            6 => self.random.below(values as u32 + 1) as usize,
+            6 => self.random.below(entries as u32 + 1) as usize,
             7 if self.random.one_in(8) => LOG_LIMIT,
-            _ => values + self.random.below(6) as usize,
+            _ => entries + self.random.below(6) as usize,
         };
         self.run_line('T', budget, size.min(LOG_LIMIT), events, script)
     }

@@ -4,7 +4,7 @@ use crate::compiler::{
     Record, DELAY, ENTER, HALT, JUMP, LOOP_END, READ, RECORD_BYTES, TEST, WORD_LIMIT, WORD_MARK,
     WRITE,
 };
-use crate::device::{Access, Answer, Device, Event, Width};
+use crate::device::{Access, Action, Answer, Device, Event, Width};
 
 pub const COUNTER_LIMIT: usize = 8;
 pub const EVENT_LIMIT: usize = 4096;
@@ -210,6 +210,7 @@ pub struct Ended {
     /// One per word executed, halt included.
     pub steps: u64,
     pub events_taken: usize,
+    /// One per entry that the run has put into the log.
     pub values_logged: usize,
 }
 
@@ -218,7 +219,8 @@ pub struct Lent<'a> {
     pub image: &'a [u8],
     pub events: &'a [u32],
     pub budget: u32,
-    pub log: &'a mut [u32],
+    /// Room for one entry per read.
+    pub log: &'a mut [u64],
 }
 
 /// Observes each write, read and test of a run.
@@ -307,7 +309,7 @@ struct Run<'a, O> {
     words: &'a [[u8; RECORD_BYTES]],
     events: &'a [u32],
     taken: usize,
-    log: &'a mut [u32],
+    log: &'a mut [u64],
     logged: usize,
     device: &'a mut Device,
     sequencer: Sequencer,
@@ -335,14 +337,14 @@ impl<O: Observer> Run<'_, O> {
             Word::Write { width, port, value } => {
                 self.take_event();
                 let answer = self.device.answer_write(width, port, value);
-                self.note(width, port, Some(value), answer);
+                self.note(Action::Write(value), width, port, answer);
                 next
             }
             Word::Read { width, port } => {
                 if self.logged == self.log.len() {
                     return Err(Ending::LogFull);
                 }
-                self.log[self.logged] = self.read(width, port);
+                self.log[self.logged] = self.read(Action::Read, width, port).log_entry();
                 self.logged += 1;
                 next
             }
@@ -380,7 +382,7 @@ impl<O: Observer> Run<'_, O> {
                 mask,
                 target,
             } => {
-                if self.read(width, port) & mask != 0 {
+                if self.read(Action::Test, width, port).value & mask != 0 {
                     next
                 } else {
                     u32::from(target)
@@ -393,13 +395,13 @@ impl<O: Observer> Run<'_, O> {
         Ok(false)
     }
 
-    /// The value read, at any status.
+    /// A read or a test. Its value and its owner are used at any status.
     #[inline]
-    fn read(&mut self, width: Width, port: u16) -> u32 {
+    fn read(&mut self, action: Action, width: Width, port: u16) -> Answer {
         self.take_event();
         let answer = self.device.answer_read(width, port);
-        self.note(width, port, None, answer);
-        answer.value
+        self.note(action, width, port, answer);
+        answer
     }
 
     /// Applies the next event, if any.
@@ -413,12 +415,12 @@ impl<O: Observer> Run<'_, O> {
     }
 
     #[inline]
-    fn note(&mut self, width: Width, port: u16, written: Option<u32>, answer: Answer) {
+    fn note(&mut self, action: Action, width: Width, port: u16, answer: Answer) {
         let device = &*self.device;
         self.observer.access(|| Access {
+            action,
             width,
             port,
-            written,
             answer,
             outputs: device.outputs(),
         });

@@ -16,14 +16,15 @@ pub const LINE_LIMIT: usize = 65_536;
 /// have the image and the script of a run.
 pub const COMPILE_LIMIT: usize = 16_384;
 
-/// The log of a run has at most this many values.
+/// The log of a run has at most this many entries.
 pub const LOG_LIMIT: usize = 2_048;
 
 /// A command has at most this many events.
 pub const EVENTS_READ: usize = 4_352;
 
-/// Before a run, value k of the log is this plus k.
-const LOG_LENT: u32 = 0xA000_0000;
+/// Before a run, entry k of the log is this plus k. No read leaves such an entry, because its upper
+/// half is not the number of an owner.
+const LOG_LENT: u64 = 0xA000_0000_0000_0000;
 
 /// The interpreter gives up after this many steps.
 pub const OWN_RUN_STEPS: u64 = 1 << 18;
@@ -126,7 +127,7 @@ impl Request {
         within_limits.then_some(request)
     }
 
-    fn log(&self) -> Vec<u32> {
+    fn log(&self) -> Vec<u64> {
         (LOG_LENT..).take(self.size).collect()
     }
 }
@@ -225,7 +226,7 @@ pub struct Ran {
     pub outcome: Result<Ended, RunRefusal>,
     pub sequencer: Sequencer,
     pub state: StateBytes,
-    pub log: Vec<u32>,
+    pub log: Vec<u64>,
 }
 
 /// A refusal of the compiler or of the sequencer.
@@ -277,7 +278,7 @@ impl fmt::Display for Ran {
         }
         self.log
             .iter()
-            .try_for_each(|value| write!(line, "{value:08X}"))
+            .try_for_each(|entry| write!(line, "{entry:016X}"))
     }
 }
 
@@ -287,8 +288,10 @@ impl fmt::Display for Reply {
             Reply::Access(answer, outputs) => {
                 write!(
                     line,
-                    "DONE {} {:08X} {outputs}",
-                    answer.status, answer.value
+                    "DONE {} {:08X} {outputs} {}",
+                    answer.status,
+                    answer.value,
+                    answer.owner.number()
                 )
             }
             Reply::Event(outputs) => write!(line, "DONE {outputs}"),
@@ -407,7 +410,7 @@ impl Session {
         }
     }
 
-    fn ran(&self, outcome: Result<Ended, RunRefusal>, log: Vec<u32>) -> Reply {
+    fn ran(&self, outcome: Result<Ended, RunRefusal>, log: Vec<u64>) -> Reply {
         Reply::Ran(Box::new(Ran {
             outcome,
             sequencer: self.sequencer,
@@ -416,7 +419,7 @@ impl Session {
         }))
     }
 
-    fn run_image(&mut self, request: &Request, log: &mut [u32]) -> Result<Ended, RunRefusal> {
+    fn run_image(&mut self, request: &Request, log: &mut [u64]) -> Result<Ended, RunRefusal> {
         let lent = Lent {
             image: &request.bytes,
             events: &request.events,
@@ -429,7 +432,7 @@ impl Session {
 
     /// The answer comes from the interpreter if it can give one, and otherwise from the sequencer.
     /// The sequencer runs the compiled script in both cases, and the results are compared.
-    fn run_script(&mut self, request: &Request, log: &mut [u32]) -> Result<Ended, RunRefusal> {
+    fn run_script(&mut self, request: &Request, log: &mut [u64]) -> Result<Ended, RunRefusal> {
         let mut image = vec![0; WORD_LIMIT * RECORD_BYTES];
         let words = compiler::compile(&request.bytes, &mut image)?;
         image.truncate(words * RECORD_BYTES);
@@ -458,7 +461,7 @@ impl Session {
         let Some(own) = own else {
             return Ok(self.leave(ended, by_words, log));
         };
-        if own.steps > u64::from(request.budget) || own.values.len() > log.len() {
+        if own.steps > u64::from(request.budget) || own.entries.len() > log.len() {
             by_words.check_stopped(&ended, &own, request);
             return Ok(self.leave(ended, by_words, log));
         }
@@ -466,9 +469,9 @@ impl Session {
             ending: Ending::Halted,
             steps: own.steps,
             events_taken: request.events.len() - own.events_left.len(),
-            values_logged: own.values.len(),
+            values_logged: own.entries.len(),
         };
-        log[..own.values.len()].copy_from_slice(&own.values);
+        log[..own.entries.len()].copy_from_slice(&own.entries);
         self.device = own.device;
         self.sequencer = Sequencer {
             place: u32::try_from(words - 1).expect("an image has at most 1,024 words"),
@@ -488,7 +491,7 @@ impl Session {
         Ok(by_own_run)
     }
 
-    fn leave(&mut self, ended: Ended, by_words: ByWords, log: &mut [u32]) -> Ended {
+    fn leave(&mut self, ended: Ended, by_words: ByWords, log: &mut [u64]) -> Ended {
         self.device = by_words.device;
         self.sequencer = by_words.sequencer;
         log.copy_from_slice(&by_words.log);
@@ -500,7 +503,7 @@ impl Session {
 struct ByWords {
     device: Device,
     sequencer: Sequencer,
-    log: Vec<u32>,
+    log: Vec<u64>,
     accesses: Vec<Access>,
 }
 
@@ -524,8 +527,8 @@ impl ByWords {
             "each access takes an event while there are any"
         );
         assert!(
-            own.values.starts_with(&self.log[..ended.values_logged]),
-            "the values are those of the interpreter, in order"
+            own.entries.starts_with(&self.log[..ended.values_logged]),
+            "the entries are those of the interpreter, in order"
         );
     }
 }

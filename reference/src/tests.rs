@@ -4,7 +4,7 @@
 use std::collections::BTreeSet;
 
 use crate::acpi::Acpi;
-use crate::device::{Answer, Device, Outputs, Refusal};
+use crate::device::{Answer, Device, Outputs, Owner, Refusal};
 use crate::generate::{self, ANYTHING};
 use crate::images::IMAGES;
 use crate::random::Random;
@@ -33,17 +33,19 @@ fn write(device: &mut Device, width: u32, port: u32, value: u32) -> u32 {
     answer.status
 }
 
-fn event(device: &mut Device, number: u32) {
-    device.single_event(number).expect("the event is not refused");
+pub(crate) fn event(device: &mut Device, number: u32) {
+    device
+        .single_event(number)
+        .expect("the event is not refused");
 }
 
-fn configure(device: &mut Device, index: u32, value: u32) -> u32 {
+pub(crate) fn configure(device: &mut Device, index: u32, value: u32) -> u32 {
     assert_eq!(write(device, 1, 0x2E, index), 0);
     write(device, 1, 0x2F, value)
 }
 
 /// A device that is unlocked, with device number 0Ah, both bases set, and activated.
-fn placed(runtime_base: u32, key_base: u32) -> Device {
+pub(crate) fn placed(runtime_base: u32, key_base: u32) -> Device {
     let mut device = Device::fresh();
     assert_eq!(write(&mut device, 1, 0x2E, 0x55), 0);
     let registers = [
@@ -492,7 +494,8 @@ fn refusals_come_in_order() {
         device.single_write(4, 0x2E, u32::MAX),
         Ok(Answer {
             status: 1,
-            value: 0
+            value: 0,
+            owner: Owner::Configuration,
         })
     );
     for number in [
@@ -591,11 +594,16 @@ fn stream_lines() {
     assert_eq!(answers(b"O\n\nF\n"), "OUTPUTS 000\nUNREAD\nFRESH\n");
     assert_eq!(
         answers(b"R 1 2f\nR 00000001 0000002F\n"),
-        "DONE 1 000000FF 000\n".repeat(2)
+        "DONE 1 000000FF 000 1\n".repeat(2)
     );
     assert_eq!(
         answers(b"W 1 2E 55\nR 1 2E\n"),
-        "DONE 0 00000000 000\n".repeat(2)
+        "DONE 0 00000000 000 1\n".repeat(2)
+    );
+    // The last number is the owner, 0 where no block claims the port. A refusal has none.
+    assert_eq!(
+        answers(b"R 2 2E\nW 4 AC01 0\nR 4 30\nR 4 AC18\n"),
+        "DONE 1 0000FFFF 000 1\nDONE 1 00000000 000 2\nDONE 1 FFFFFFFF 000 0\nDONE 0 00000000 000 2\n"
     );
     assert_eq!(
         answers(b"R 3 2E\nE 0\nR 1 10000"),

@@ -73,6 +73,21 @@ pub mod status {
     pub const IGNORED: u64 = 5;
 }
 
+/// The owner of a port: the block that answers there. It depends on the configuration of the device. An answer names the owner at the
+/// moment of the access.
+pub mod owner {
+    /// No block claims the port.
+    pub const NOBODY: u32 = 0;
+    /// 002Eh and 002Fh.
+    pub const CONFIGURATION: u32 = 1;
+    /// AC00h to AC1Fh.
+    pub const ACPI: u32 = 2;
+    /// Runtime base + 70h and + 71h.
+    pub const MONITOR: u32 = 3;
+    /// Key base to key base + 31.
+    pub const KEY: u32 = 4;
+}
+
 extern "C" {
     fn runnelopal_compile(
         script: *const u8,
@@ -88,13 +103,15 @@ extern "C" {
         events: *const u32,
         event_count: usize,
         budget: u32,
-        log: *mut u32,
+        log: *mut u64,
         log_count: usize,
         state: *mut u8,
         state_bytes: usize,
         answer: *mut u64,
         answer_count: usize,
     ) -> u32;
+    fn runnelopal_entry_value(entry: u64) -> u32;
+    fn runnelopal_entry_owner(entry: u64) -> u32;
     fn runnelopal_fresh(state: *mut u8, state_bytes: usize) -> u32;
     fn runnelopal_access(
         state: *mut u8,
@@ -150,6 +167,27 @@ pub fn compile(script: &[u8], image: &mut [u8]) -> Result<usize, Refusal> {
     refused(number, answer[0], answer[1] as usize)
 }
 
+/// An entry of the log, taken apart: what a read of a run leaves there. `LogEntry::from(log[k])` takes entry k apart.
+#[derive(Clone, Copy, Debug, PartialEq, Eq)]
+pub struct LogEntry {
+    /// The value read: the low 32 bits of the entry.
+    pub value: u32,
+    /// The owner of the port, a number of the module [`owner`]: the bits above the value.
+    pub owner: u32,
+}
+
+impl From<u64> for LogEntry {
+    fn from(entry: u64) -> Self {
+        // SAFETY: the functions take a number and return one.
+        unsafe {
+            LogEntry {
+                value: runnelopal_entry_value(entry),
+                owner: runnelopal_entry_owner(entry),
+            }
+        }
+    }
+}
+
 /// The result of a run that was not refused.
 #[derive(Clone, Debug, PartialEq, Eq)]
 pub struct Run {
@@ -159,7 +197,7 @@ pub struct Run {
     pub steps: u64,
     /// Events applied.
     pub taken: usize,
-    /// Values logged.
+    /// Values logged: so many entries of `log` are filled.
     pub logged: usize,
     /// The index of the next word, or of the halt.
     pub place: u64,
@@ -168,8 +206,9 @@ pub struct Run {
 }
 
 /// Runs an image on a fresh device, from its first word. `events` are the outside events; the next one is applied before each register
-/// access. `budget` is the greatest number of words to execute. Each read appends its value to `log`. Refusals: 10 and 12.
-pub fn run(image: &[u8], events: &[u32], budget: u32, log: &mut [u32]) -> Result<Run, Refusal> {
+/// access. `budget` is the greatest number of words to execute. Each read appends an entry to `log`, which
+/// [`LogEntry`] takes apart. Refusals: 10 and 12.
+pub fn run(image: &[u8], events: &[u32], budget: u32, log: &mut [u64]) -> Result<Run, Refusal> {
     let mut answer = [0u64; 5];
     let mut device = Device::fresh();
     // SAFETY: as in `compile`.
@@ -220,6 +259,8 @@ pub struct Answer {
     pub value: u32,
     /// The outputs after the access.
     pub outputs: Outputs,
+    /// The owner of the port: a number of the module [`owner`].
+    pub owner: u32,
 }
 
 /// A device, kept as its saved bytes.
@@ -248,7 +289,7 @@ impl Device {
     }
 
     fn access(&mut self, write: bool, width: u32, port: u32, value: u32) -> Result<Answer, Refusal> {
-        let mut answer = [0u64; 6];
+        let mut answer = [0u64; 7];
         // SAFETY: as in `compile`.
         let number = unsafe {
             runnelopal_access(
@@ -266,6 +307,7 @@ impl Device {
             status: answer[1],
             value: answer[2] as u32,
             outputs: outputs(&answer[3..6]),
+            owner: answer[6] as u32,
         };
         refused(number, answer[0], done)
     }

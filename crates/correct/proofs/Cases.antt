@@ -1,4 +1,5 @@
--- The cases P1 to P11 hold, all in one statement. Each is a test without variables, so the definitions compute it to true.
+-- The cases P1 to P11 hold, all in one statement, and so do the cases about owners. Each is a test without variables, so the definitions
+-- compute it to true.
 use mathlib.Core.Path.{_≡_, refl}
 use mathlib.Core.Bool.{true}
 use Rattle.access.specs.Status.{readValue}
@@ -18,6 +19,7 @@ use Rattle.config.specs.Config.{
   controlWrite,
   dataRead,
   dataWrite,
+  indexRead,
   indexWrite,
   registerRead,
   registerWrite,
@@ -34,12 +36,30 @@ use Rattle.script.specs.Nested.{scriptBody}
 use Rattle.script.specs.Records.{recordsOf}
 use Rattle.script.specs.Refusals.{recordFault, scriptRefusal}
 use Rattle.semantics.specs.OwnRun.{scriptRun}
-use Rattle.semantics.specs.World.{afterRead, sharesOne, afterTest, valueRead, afterWrite}
+use Rattle.semantics.specs.World.{afterRead, afterTest, afterWrite, entryLogged, sharesOne, valueRead}
 use Rattle.sequencer.specs.Run.{imageRun}
 use Rattle.step.specs.Step.{execute, nextStep, wordFault}
 use Rattle.step.specs.Word.{badWord}
 use Rattle.lists.specs.Tests.{allHold}
-use Rattle.correct.specs.Cases.{cases, p1, p2, p3, p4, p5, p6, p7, p8, p9, p10, p11}
+use Rattle.correct.specs.Cases.{
+  cases,
+  ownerCases,
+  ownerOfTheMoment,
+  p1,
+  p2,
+  p3,
+  p4,
+  p5,
+  p6,
+  p7,
+  p8,
+  p9,
+  p10,
+  p11,
+  runOwners,
+  traceCase,
+  wrongWidth,
+}
 
 pub cases-hold : allHold cases ≡ true
 unfolding p1 p2 p3 p4 p5 p6 p7 p8 p9 p10 p11
@@ -49,5 +69,14 @@ unfolding p1 p2 p3 p4 p5 p6 p7 p8 p9 p10 p11
     acpiAccess acpiEvent acpiReset acpiSettle takes acpiRead registerValue acpiWrite acpiControl setupIndexWrite
     ticked wake pending sciOn smiOn
     bytesOf recordAt recordsOf scriptRefusal recordFault scriptBody wordsOf
-    scriptRun afterWrite afterRead afterTest sharesOne valueRead imageRun nextStep execute wordFault badWord
+    scriptRun afterWrite afterRead afterTest sharesOne entryLogged valueRead imageRun nextStep execute wordFault badWord
 cases-hold = refl
+
+pub owner-cases-hold : allHold ownerCases ≡ true
+unfolding wrongWidth ownerOfTheMoment traceCase runOwners
+    deviceAccess dispatch readValue owner keyClaims monitorClaims applyEvent eventEffect eventBlock resetDevice
+    configAccess indexRead dataRead registerRead indexWrite dataWrite registerWrite controlWrite keyAccess keyRead keyWrite
+    monitorAccess acpiAccess acpiEvent acpiReset acpiSettle takes acpiRead registerValue ticked wake pending sciOn smiOn
+    bytesOf recordAt recordsOf scriptRefusal recordFault scriptBody wordsOf
+    scriptRun afterWrite afterRead afterTest sharesOne entryLogged valueRead imageRun nextStep execute wordFault badWord
+owner-cases-hold = refl

@@ -6,7 +6,7 @@ use native.Mathlib.Omega.{arith}
 use lib.ListN.{length, length-append}
 use Rattle.script.specs.Nested.{Body, done, write, read, delay, repeat, if, ifElse}
 use Rattle.semantics.specs.OwnRun.{Run, countStep, oneStep, ownRun, repeatTimes}
-use Rattle.semantics.specs.World.{afterDelay, afterRead, sharesOne, afterTest, valueRead, afterWrite}
+use Rattle.semantics.specs.World.{afterDelay, afterRead, afterTest, afterWrite, entryLogged, sharesOne}
 
 -- the number of values logged
 abbrev pub lines : Run → ℕ
@@ -19,7 +19,7 @@ write-lines p w v r = omega (arith, length-append (r .world .logged) [])
 
 pub read-lines : (p w : ℕ) (r : Run) → lines r < lines (oneStep (afterRead p w) r)
 unfolding afterRead
-read-lines p w r = omega (arith, length-append (r .world .logged) (valueRead p w (r .world) ∷ []))
+read-lines p w r = omega (arith, length-append (r .world .logged) (entryLogged p w (r .world) ∷ []))
 
 delay-lines : (n : ℕ) (r : Run) → lines r ≤ lines (oneStep (afterDelay n) r)
 unfolding afterDelay

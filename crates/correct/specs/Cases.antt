@@ -1,5 +1,6 @@
 -- The cases P1 to P11 of the rules, as tests over the definitions: P1 to P9 on the fresh device with some registers changed,
--- P10 and P11 on a script. "One statement over one list holds P1 to P11": `cases-hold` in proofs/Cases.antt.
+-- P10 and P11 on a script. "One statement over one list holds P1 to P11": `cases-hold` in proofs/Cases.antt. A second list, at the end of
+-- the file, has cases about owners.
 -- See docs/CHIP.md for the registers and the words.
 use Prim.Native.Nat.{ℕ, _+_, _*_, _^_}
 use mathlib.Core.Bool.{Bool, true, false, not, _&&_}
@@ -28,12 +29,15 @@ use Rattle.monitor.specs.declared.Monitor.{Monitor}
 use Rattle.device.specs.Device.{freshDevice, withAcpi, withConfig, withMonitor}
 use Rattle.device.specs.Event.{applyEvent}
 use Rattle.device.specs.Dispatch.{deviceAccess}
+use Rattle.device.specs.Owner.{acpi, configuration, key, monitor, nobody}
 use Rattle.device.specs.declared.Device.{Device}
 use Rattle.device.specs.declared.AccessResult.{AccessResult}
+use Rattle.log.specs.Entry.{logEntry}
 use Rattle.record.specs.Record.{bytesOf}
 use Rattle.record.specs.declared.Record.{Record}
 use Rattle.script.specs.Refusals.{scriptRefusal}
 use Rattle.semantics.specs.OwnRun.{scriptRun}
+use Rattle.semantics.specs.World.{AccessEntry, World}
 use Rattle.sequencer.specs.Run.{imageRun}
 use Rattle.step.specs.Sequencer.{freshSequencer}
 
@@ -89,7 +93,10 @@ p3 =
     answers keyWrite 0 0
     && (eqb (getD (keyWrite .device .key .bytes) 0 0) 0x5A
     && (answers (reading (keyWrite .device) 1 0x0020) 0 0x5A
-    && (answers indexWrite 0 0 && (indexWrite .device .config .unlocked && eqb (getD (indexWrite .device .key .bytes) 0x0E 0) 0))))
+    && (eqb (keyWrite .owner) key
+    && (answers indexWrite 0 0
+    && (indexWrite .device .config .unlocked
+    && (eqb (getD (indexWrite .device .key .bytes) 0x0E 0) 0 && eqb (indexWrite .owner) configuration))))))
 
 -- ---- "P4 Lock set: 7Eh write status 2; 83h holding 03h, written 03h, becomes 00h."
 abbrev watched : Monitor → Device
@@ -219,3 +226,84 @@ p11 =
 
 abbrev pub cases : List Bool
 cases = p1 ∷ p2 ∷ p3 ∷ p4 ∷ p5 ∷ p6 ∷ p7 ∷ p8 ∷ p9 ∷ p10 ∷ p11 ∷ []
+
+-- ---- a later request: "Let each access also return the block that owns the port: 0 none, 1 configuration, 2 ACPI, 3 monitor, 4 key."
+-- the access names this owner and has this status
+abbrev namedAt : AccessResult → (owner status : ℕ) → Bool
+namedAt r o s = eqb (r .owner) o && eqb (r .answer .status) s
+
+-- "The owner is named at status 1 too": a width that the owner does not take, and a port that no block claims
+unfoldable pub wrongWidth : Bool
+wrongWidth =
+    namedAt (reading keyed 2 0x002E) configuration 1
+    && (namedAt (reading keyed 1 0xAC08) acpi 1
+    && (namedAt (reading lockedMonitor 4 0x0470) monitor 1
+    && (namedAt (reading keyed 4 0x0020) key 1 && namedAt (reading keyed 1 0x0040) nobody 1)))
+
+-- the owner of the moment: the key has a port until a write to the configuration deactivates it, or a PCI reset does
+abbrev deactivating : Device
+deactivating = configured (withActivate (withKeyBase (withIndex (withNumber (withUnlocked freshConfig true) 0x0A) 0x30) 0x0020) 0x01)
+
+abbrev deactivated : AccessResult
+deactivated = writing deactivating 1 0x002F 0x00
+
+unfoldable pub ownerOfTheMoment : Bool
+ownerOfTheMoment =
+    namedAt (reading deactivating 1 0x0020) key 0
+    && (namedAt deactivated configuration 0
+    && (namedAt (reading (deactivated .device) 1 0x0020) nobody 1
+    && namedAt (reading (applyEvent deactivating (6 * 2 ^ 24 + 0)) 1 0x0020) nobody 1))
+
+-- the script of the tracing program logs 04h and FFh: "the two lines of its case end in 1". `trace` has the text
+abbrev unlockScript : List ℕ
+unlockScript =
+    scriptOf
+    (scriptRecord 1 1 0x002E 0x55
+    ∷ scriptRecord 1 1 0x002E 0x07
+    ∷ scriptRecord 1 1 0x002F 0x0A
+    ∷ scriptRecord 1 1 0x002E 0xF2
+    ∷ scriptRecord 2 1 0x002F 0 ∷ scriptRecord 1 1 0x002E 0xAA ∷ scriptRecord 2 1 0x002F 0 ∷ [])
+
+abbrev sameNumbers : List ℕ → List ℕ → Bool
+sameNumbers [] [] = true
+sameNumbers [] (b ∷ bs) = false
+sameNumbers (a ∷ es) [] = false
+sameNumbers (a ∷ es) (b ∷ bs) = eqb a b && sameNumbers es bs
+
+unfoldable pub traceCase : Bool
+traceCase =
+    stepsOf unlockScript 8
+    && sameNumbers (scriptRun unlockScript freshDevice [] .world .logged)
+    (logEntry configuration 0x04 ∷ logEntry configuration 0xFF ∷ [])
+
+-- a script on the device above, with a PCI reset before its last write: a read, a test, a read, a write and a read. Both runs list the owner
+-- of each, and log those of the three reads
+abbrev ownerScript : List ℕ
+ownerScript =
+    scriptOf
+    (scriptRecord 2 1 0x0020 0
+    ∷ scriptRecord 5 1 0x002E 0xFF
+    ∷ scriptRecord 2 2 0xAC08 0 ∷ scriptRecord 7 0 0 0 ∷ scriptRecord 1 1 0x0020 0x5A ∷ scriptRecord 2 1 0x0020 0 ∷ [])
+
+abbrev noTicks : ℕ
+noTicks = 1 * 2 ^ 24
+
+abbrev resetLater : List ℕ
+resetLater = noTicks ∷ noTicks ∷ noTicks ∷ (6 * 2 ^ 24 + 0) ∷ []
+
+abbrev ownersOf : List AccessEntry → List ℕ
+ownersOf [] = []
+ownersOf (m ∷ ms) = m .owner ∷ ownersOf ms
+
+abbrev ownersIn : World → Bool
+ownersIn w =
+    sameNumbers (ownersOf (w .accesses)) (key ∷ configuration ∷ acpi ∷ nobody ∷ nobody ∷ [])
+    && sameNumbers (w .logged) (logEntry key 0x00 ∷ logEntry acpi 0 ∷ logEntry nobody 0xFF ∷ [])
+
+unfoldable pub runOwners : Bool
+runOwners =
+    ownersIn (scriptRun ownerScript deactivating resetLater .world)
+    && ownersIn (imageRun (imageBytes (wordsOf ownerScript)) deactivating freshSequencer resetLater 100 10 .machine .world)
+
+abbrev pub ownerCases : List Bool
+ownerCases = wrongWidth ∷ ownerOfTheMoment ∷ traceCase ∷ runOwners ∷ []

@@ -29,13 +29,14 @@ abbrev pub wordsWritten : List ℕ → List ℕ → List ℕ
 wordsWritten script buffer = take (recordSize * compileResult script buffer .words) (imageAfter script buffer)
 
 -- the script's own run and the run of its image agree: `answer` is the answer of the run of the image, `image` its end, `log`
--- the log after it and `lent` the log before it
+-- the log after it and `lent` the log before it. Each access has its whole answer, the owner included, and each entry of the log its
+-- value and its owner
 pub record SameRun (own : Run) (answer : RunResult) (image : RunEnd) (words : ℕ) (events lent log : List ℕ) : Type 0 where
   pub halted : answer .outcome ≡ 0
   pub onLastWord : answer .sequencer .place ≡ words - 1
   pub noCounterInUse : answer .sequencer .used ≡ 0
   pub sameAccesses : image .machine .world .accesses ≡ own .world .accesses
-  pub sameValues : take (length (own .world .logged)) log ≡ own .world .logged
+  pub sameEntries : take (length (own .world .logged)) log ≡ own .world .logged
   pub restAsLent : drop (length (own .world .logged)) log ≡ drop (length (own .world .logged)) lent
   pub sameLogged : answer .logged ≡ length (own .world .logged)
   pub sameDevice : answer .device ≡ own .world .device

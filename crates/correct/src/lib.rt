@@ -29,7 +29,7 @@ fn run_words(
     device: Device,
     events: &[u32],
     budget: u32,
-    log: &mut [u32],
+    log: &mut [u64],
 ) -> RunResult
     requires { ⌜ (recordSize * words ≤ length (now image)) × (words ≤ mostRecords) ⌝ }
     ensures { λ r. ⌜ (r ≡ runAnswer (take (recordSize * words) (now (image .entry))) device freshSequencer (now (events .entry)) budget (now (log .entry))) × (now (log .exit) ≡ logAfter (take (recordSize * words) (now (image .entry))) device freshSequencer (now (events .entry)) budget (now (log .entry))) ⌝ }
@@ -46,7 +46,7 @@ fn run_script(
     device: Device,
     events: &[u32],
     budget: u32,
-    log: &mut [u32],
+    log: &mut [u64],
 ) -> RunResult
     requires { ⌜ recordSize * mostRecords ≤ length (now image) ⌝ }
     ensures { λ r. ⌜ (r ≡ compileAndRunResult (now (script .entry)) device (now (events .entry)) budget (now (log .entry))) × (now (log .exit) ≡ compileAndRunLog (now (script .entry)) device (now (events .entry)) budget (now (log .entry))) ⌝ }
@@ -73,7 +73,7 @@ pub fn compile_and_run(
     device: Device,
     events: &[u32],
     budget: u32,
-    log: &mut [u32],
+    log: &mut [u64],
 ) -> RunResult
     ensures { λ r. ⌜ (r ≡ compileAndRunResult (now (script .entry)) device (now (events .entry)) budget (now (log .entry))) × (now (log .exit) ≡ compileAndRunLog (now (script .entry)) device (now (events .entry)) budget (now (log .entry))) ⌝ }
 {

@@ -1,16 +1,20 @@
--- The owner of a port claims it, so the port is not below the first port of the block. Bases are bounded by their masks.
-use Prim.Native.Nat.{ℕ, suc, _+_, _-_, _≤_, _<_}
-use mathlib.Core.Path.{_≡_, refl}
+-- The owner of a port claims it, so the port is not below the first port of the block. Bases are bounded by their masks. An access does
+-- not change the owner of its port.
+use Prim.Native.Nat.{ℕ, zero, suc, _+_, _-_, _≤_, _<_}
+use mathlib.Core.Path.{_≡_, refl, ap, sym, _∙_}
 use mathlib.Core.Bool.{Bool, true, false, not, _&&_, _||_}
-use borrow.Author.Tests.{eqb-true, leb-true, ltb-true}
+use borrow.Author.Tests.{eqb-false, eqb-true, leb-true, ltb-true}
 use native.Mathlib.Omega.{arith}
 use lib.Bits.{and-le-r}
 use lib.Dec.{eqb, leb, ltb}
+use lib.ListN.{getD}
+use Rattle.access.specs.declared.Access.{Access}
 use Rattle.config.specs.Config.{keyBase, runtimeBase}
 use Rattle.config.specs.declared.Config.{Config}
-use Rattle.lists.proofs.Tests.{first-holds}
+use Rattle.lists.proofs.Tests.{first-at-most, first-holds}
 use Rattle.lists.specs.Tests.{holdsAt}
 use Rattle.mask.proofs.Every.{and-left, and-right}
+use Rattle.device.specs.Dispatch.{answers, unclaimed}
 use Rattle.device.specs.Owner.{
   acpi,
   acpiClaims,
@@ -28,6 +32,7 @@ use Rattle.device.specs.Owner.{
   monitorPort,
   owner,
 }
+use Rattle.device.specs.declared.Device.{Device}
 
 -- a base is at most its mask, so adding an offset does not overflow
 pub runtime-at-most : (g : Config) → runtimeBase g ≤ 0xFF80
@@ -40,6 +45,11 @@ key-at-most g = and-le-r (g .«key_base») 0xFFE0
 claimed : (g : Config) (port k : ℕ) → owner g port ≡ suc k → holdsAt (claims g port) (suc k) ≡ true
 unfolding owner
 claimed g port k e = first-holds (claims g port) k e .holds
+
+-- the number of an owner is at most that of the last block
+pub owner-at-most : (g : Config) (port : ℕ) → owner g port ≤ key
+unfolding owner
+owner-at-most g port = first-at-most (claims g port)
 
 -- a port that equals one of two ports is at least the smaller one
 either-at-least : (port a b : ℕ) → a ≤ b → (eqb port a || eqb port b) ≡ true → a ≤ port
@@ -82,3 +92,35 @@ module _ (g : Config) (port : ℕ) where
       let above = key-owns e in
       let below = ltb-true port (keyBase g + 32) (and-right (leb (keyBase g) port) _ (key-within e)) in
       omega (arith, above, below)
+
+-- ---- an access does not change who owns its port
+-- the configuration claims its ports whatever it holds
+config-always-owns : (g h : Config) (port : ℕ) → owner g port ≡ configuration → owner h port ≡ configuration
+unfolding owner
+config-always-owns g h port e = rw (claimed g port 0 e)
+
+-- and no other block changes the configuration
+config-kept :
+    (d : Device) (x : Access) (k : ℕ) → (k ≡ configuration → ⊥) → getD (answers d x) k (unclaimed d) .block .config ≡ d .config
+config-kept d x zero n = refl
+config-kept d x (suc zero) n = absurd (n refl)
+config-kept d x (suc (suc zero)) n = refl
+config-kept d x (suc (suc (suc zero))) n = refl
+config-kept d x (suc (suc (suc (suc zero)))) n = refl
+config-kept d x (suc (suc (suc (suc (suc k))))) n = refl
+
+pub same-owner :
+    (d : Device) (x : Access)
+    → owner (getD (answers d x) (owner (d .config) (x .port)) (unclaimed d) .block .config) (x .port) ≡ owner (d .config) (x .port)
+same-owner d x = pick (eqb (owner (d .config) (x .port)) configuration) refl
+  where
+    next : Config
+    next = getD (answers d x) (owner (d .config) (x .port)) (unclaimed d) .block .config
+
+    pick : (b : Bool) → eqb (owner (d .config) (x .port)) configuration ≡ b → owner next (x .port) ≡ owner (d .config) (x .port)
+    pick true e =
+        let o = eqb-true (owner (d .config) (x .port)) configuration e in
+        config-always-owns (d .config) next (x .port) o ∙ sym o
+    pick false e =
+        let n = eqb-false (owner (d .config) (x .port)) configuration e in
+        ap (λ (g : Config). owner g (x .port)) (config-kept d x (owner (d .config) (x .port)) n)

@@ -3,3 +3,4 @@ pub mod Orderly
 pub mod Range
 pub mod Settle
 pub mod Ticks
+pub mod NamedOwner

@@ -4,7 +4,7 @@ use Prim.Native.Nat.{ℕ, _-_}
 use mathlib.Core.Path.{_≡_, refl, ap, _∙_}
 use mathlib.Core.Bool.{Bool, true, false, cond}
 use Rattle.access.proofs.Block.{Orderly, StatusInTable}
-use Rattle.access.specs.Block.{Result}
+use Rattle.access.specs.Block.{Result, result}
 use Rattle.access.specs.Status.{isStatus, readValue}
 use Rattle.access.specs.declared.Access.{Access}
 use Rattle.access.specs.declared.Answer.{Answer}
@@ -16,11 +16,10 @@ use Rattle.monitor.proofs.Orderly.{monitor-orderly}
 use Rattle.device.specs.Device.{settleDevice, withAcpi, withConfig, withKey, withMonitor}
 use Rattle.device.specs.Dispatch.{finalAnswer, answeredBy, answers, deviceAccess, dispatch}
 use Rattle.device.specs.Owner.{acpiPort, configPort, keyPort, monitorPort, owner}
-use Rattle.device.specs.declared.AccessResult.{AccessResult}
 use Rattle.device.specs.declared.Device.{Device}
 
-record OrderlyResult (d : Device) (x : Access) (r : AccessResult) : Type 0 where
-  unchanged : (r .answer .status ≡ 0 → ⊥) → r .device ≡ d
+record OrderlyResult (d : Device) (x : Access) (r : Result Device) : Type 0 where
+  unchanged : (r .answer .status ≡ 0 → ⊥) → r .block ≡ d
   write-zero : x .write ≡ true → r .answer .value ≡ 0
   status-in-table : StatusInTable (r .answer)
 
@@ -30,7 +29,7 @@ by-block :
     → OrderlyResult d x (answeredBy put r)
 by-block put same o = record { unchanged = λ n. rw (o .unchanged n) same; write-zero = o .write-zero; status-in-table = o .status-in-table }
 
-dispatch-orderly : (d : Device) (x : Access) → OrderlyResult d x (dispatch d x)
+dispatch-orderly : (d : Device) (x : Access) → OrderlyResult d x (result (dispatch d x .answer) (dispatch d x .device))
 unfolding dispatch
 dispatch-orderly d x =
     let nobody : OrderlyResult d x _ = record { unchanged = λ n. refl; write-zero = λ e. refl; status-in-table = refl } in
@@ -51,7 +50,7 @@ dispatch-orderly d x =
     (owner g (x .port))
 
 -- the status is that of the owner, for reads and for writes
-same-status : (x : Access) (r : Answer) → finalAnswer x r .status ≡ r .status
+pub same-status : (x : Access) (r : Answer) → finalAnswer x r .status ≡ r .status
 same-status x r = pick (x .write)
   where
     pick : (b : Bool)

@@ -4,6 +4,7 @@ use Prim.Native.Nat.{ℕ, _+_, _-_, _*_, _^_}
 use mathlib.Core.Path.{_≡_, refl}
 use mathlib.Core.Bool.{true}
 use lib.Dec.{eqb}
+use Rattle.access.specs.Block.{Result}
 use Rattle.access.specs.declared.Access.{Access}
 use Rattle.acpi.proofs.Range as in-acpi
 use Rattle.acpi.specs.Acpi.{acpiInRange, acpiReset, acpiSettle}
@@ -34,7 +35,6 @@ use Rattle.device.specs.Device.{
 use Rattle.device.specs.Dispatch.{answers, deviceAccess, dispatch}
 use Rattle.device.specs.Event.{applyEvent, eventBlock, eventEffect, everyBlock, kindOf, operandOf}
 use Rattle.device.specs.Owner.{acpi, acpiPort, configPort, monitor, monitorPort, owner}
-use Rattle.device.specs.declared.AccessResult.{AccessResult}
 use Rattle.device.specs.declared.Device.{Device}
 
 abbrev InRange : Device → Type 0
@@ -90,7 +90,7 @@ module _ (d : Device) (h : InRange d) where
   dispatch-in-range x =
       let b = blocks d h in
       let g = d .config in
-      at-any (λ (r : AccessResult). InRange (r .device)) h (answers d x) (
+      at-any (λ (r : Result Device). InRange (r .block)) h (answers d x) (
         h,
         (
           with-config _ (in-config.access-in-range g (x .port - configPort) x (b .config)),

@@ -10,6 +10,7 @@ use Rattle.width.specs.Width.{fitsWidth, isWidth}
 use Rattle.device.specs.Device.{deviceInRange, outputsOf}
 use Rattle.device.specs.Dispatch.{deviceAccess}
 use Rattle.device.specs.Event.{applyEvent, isEvent}
+use Rattle.device.specs.Owner.{nobody}
 use Rattle.device.specs.declared.Device.{Device}
 use Rattle.outcome.specs.Number as number
 use Rattle.device.specs.declared.Outputs.{Outputs}
@@ -31,16 +32,16 @@ abbrev pub noOutputs : Outputs
 noOutputs = record { sci = false; smi = false; monitor = false }
 
 abbrev pub accessRefused : ℕ → AccessReply
-accessRefused n = record { refusal = n; place = 0; status = 0; value = 0; outputs = noOutputs }
+accessRefused n = record { refusal = n; place = 0; status = 0; value = 0; outputs = noOutputs; owner = nobody }
 
-abbrev pub accessDone : Answer → Outputs → AccessReply
-accessDone a o = record { refusal = 0; place = 0; status = a .status; value = a .value; outputs = o }
+abbrev pub accessDone : (owner : ℕ) → Answer → Outputs → AccessReply
+accessDone n a o = record { refusal = 0; place = 0; status = a .status; value = a .value; outputs = o; owner = n }
 
 abbrev pub accessRefusal : Device → Access → ℕ
 accessRefusal d x = callRefusal (deviceInRange d) (isAccess x) number.badField
 
 abbrev pub accessMade : AccessResult → SingleAccess
-accessMade r = record { device = r .device; reply = accessDone (r .answer) (outputsOf (r .device)) }
+accessMade r = record { device = r .device; reply = accessDone (r .owner) (r .answer) (outputsOf (r .device)) }
 
 -- a refusal returns the device unchanged
 unfoldable pub singleAccess : Device → Access → SingleAccess

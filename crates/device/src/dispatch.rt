@@ -1,5 +1,5 @@
-// An access: the owner of the port answers, the device takes the new state of that block, and the device settles. Any access to any
-// device is answered. The single calls and the sequencer call `Device::access`. See docs/CHIP.md, "Accesses".
+// An access: the owner of the port answers and is named, the device takes the new state of that block, and the device settles. Any access
+// to any device is answered. The single calls and the sequencer call `Device::access`. See docs/CHIP.md, "Accesses".
 use access::Access;
 use access::Answer;
 ghost use mathlib.Core.Path.{_≡_};
@@ -24,7 +24,7 @@ fn final_answer(access: Access, answer: Answer) -> Answer
 }
 
 impl Device {
-    // The answer of the owner, and the device with the new state of that block. The device is taken apart
+    // The owner, its answer, and the device with the new state of that block. The device is taken apart
     // first, so that only one block is replaced.
     fn dispatch(self, access: Access) -> AccessResult
         ensures { λ r. ⌜ r ≡ dispatch self access ⌝ }
@@ -45,7 +45,11 @@ impl Device {
                     monitor,
                     config,
                 };
-                AccessResult { device, answer }
+                AccessResult {
+                    device,
+                    owner: Device::CONFIGURATION,
+                    answer,
+                }
             }
             Device::ACPI => {
                 let r = acpi.access(access.port - Device::ACPI_FIRST, access);
@@ -57,7 +61,11 @@ impl Device {
                     monitor,
                     config,
                 };
-                AccessResult { device, answer }
+                AccessResult {
+                    device,
+                    owner: Device::ACPI,
+                    answer,
+                }
             }
             Device::MONITOR => {
                 let r = monitor.access(access.port - monitor_port(config), access);
@@ -69,7 +77,11 @@ impl Device {
                     monitor,
                     config,
                 };
-                AccessResult { device, answer }
+                AccessResult {
+                    device,
+                    owner: Device::MONITOR,
+                    answer,
+                }
             }
             Device::KEY => {
                 let r = key.access(config.control, access.port - config.key_base(), access);
@@ -81,22 +93,31 @@ impl Device {
                     monitor,
                     config,
                 };
-                AccessResult { device, answer }
+                AccessResult {
+                    device,
+                    owner: Device::KEY,
+                    answer,
+                }
             }
             _ => AccessResult {
                 device: self,
+                owner: Device::NOBODY,
                 answer: Answer::status_only(Answer::UNCLAIMED),
             },
         }
     }
 
-    // The answer to an access, and the device after the access and the settling.
+    // The owner of the port, the answer to the access, and the device after the access and the settling.
     pub fn access(self, access: Access) -> AccessResult
         ensures { λ r. ⌜ r ≡ deviceAccess self access ⌝ }
     {
         let owned = self.dispatch(access);
         let answer = final_answer(access, owned.answer);
         let device = owned.device.settle();
-        AccessResult { device, answer }
+        AccessResult {
+            device,
+            owner: owned.owner,
+            answer,
+        }
     }
 }

@@ -29,9 +29,10 @@ pub struct Outputs {
     pub monitor: bool,
 }
 
-// The answer to an access, and the device after it.
+// The block that owned the port when the access was made, its answer, and the device after the access.
 pub struct AccessResult {
     pub device: Device,
+    pub owner: u32,
     pub answer: Answer,
 }
 

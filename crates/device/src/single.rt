@@ -19,14 +19,15 @@ ghost use Rattle.device.specs.Single.{
 use crate::Device;
 use crate::Outputs;
 
-// The reply to a single access. `refusal` is 0 if the access was made. Otherwise it is the number
-// of the refusal, and all other numbers are 0.
+// The reply to a single access. `refusal` is 0 if the access was made; then `owner` is the block that owned the port. Otherwise `refusal`
+// is the number of the refusal, and all other numbers are 0.
 pub struct AccessReply {
     pub refusal: u32,
     pub place: u32,
     pub status: u32,
     pub value: u32,
     pub outputs: Outputs,
+    pub owner: u32,
 }
 
 // The reply to a single event, in the same form.
@@ -86,11 +87,12 @@ impl AccessReply {
             status: 0,
             value: 0,
             outputs,
+            owner: Device::NOBODY,
         }
     }
 
-    pub fn done(answer: Answer, outputs: Outputs) -> Self
-        ensures { λ r. ⌜ r ≡ accessDone answer outputs ⌝ }
+    pub fn done(owner: u32, answer: Answer, outputs: Outputs) -> Self
+        ensures { λ r. ⌜ r ≡ accessDone owner answer outputs ⌝ }
     {
         AccessReply {
             refusal: 0,
@@ -98,6 +100,7 @@ impl AccessReply {
             status: answer.status,
             value: answer.value,
             outputs,
+            owner,
         }
     }
 }
@@ -160,7 +163,7 @@ impl Device {
         let device = made.device;
         SingleAccess {
             device,
-            reply: AccessReply::done(answer, device.outputs()),
+            reply: AccessReply::done(made.owner, answer, device.outputs()),
         }
     }
 

@@ -1,5 +1,5 @@
 -- A list of tests holds exactly if each test holds. If `firstHolding` finds a test, this test holds and none before it does.
-use Prim.Native.Nat.{ℕ, zero, suc, _+_, _<_}
+use Prim.Native.Nat.{ℕ, zero, suc, _+_, _≤_, _<_}
 use mathlib.Core.Path.{_≡_, refl, _∙_}
 use mathlib.Core.Bool.{Bool, true, false}
 use mathlib.Core.List.{List, [], _∷_}
@@ -46,6 +46,15 @@ none-from (false ∷ bs) at p h (suc k) = none-from bs (suc at) (omega arith) h 
 pub none-holds : (bs : List Bool) → firstHolding bs ≡ 0 → (k : ℕ) → holdsAt bs k ≡ false
 none-holds bs e zero = refl
 none-holds bs e (suc k) = none-from bs 1 (omega arith) e k
+
+-- a place that it returns is in the list
+from-at-most : (bs : List Bool) (at : ℕ) → firstFrom (suc at) bs ≤ at + length bs
+from-at-most [] at = omega arith
+from-at-most (true ∷ bs) at = omega arith
+from-at-most (false ∷ bs) at = let h = from-at-most bs (suc at) in omega (arith, h)
+
+pub first-at-most : (bs : List Bool) → firstHolding bs ≤ length bs
+first-at-most bs = let h = from-at-most bs 0 in omega (arith, h)
 
 -- a list of tests holds exactly if each test holds
 pub all-hold : (bs : List Bool) → All (λ b. b ≡ true) bs → allHold bs ≡ true

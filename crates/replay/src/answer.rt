@@ -2,6 +2,7 @@
 use crate::session::Session;
 use device::Device;
 use device::Outputs;
+use device::single::AccessReply;
 use libc::STDOUT_FILENO;
 use sequencer::RunResult;
 use step::COUNTERS;
@@ -53,15 +54,18 @@ pub fn refused(number: u32, place: u32) {
     print(&mut line, end);
 }
 
-pub fn access_done(status: u32, value: u32, outputs: Outputs) {
+// An access that is made: the status, the value, the outputs and the owner.
+pub fn access_done(reply: AccessReply) {
+    let outputs = reply.outputs;
     let mut line = [0u8; 64];
     let a = digits::put_text(&mut line, 0, b"DONE ");
-    let b = digits::put_decimal(&mut line, a, status);
+    let b = digits::put_decimal(&mut line, a, reply.status);
     let c = digits::put(&mut line, b, b' ');
-    let d = digits::put_hex(&mut line, c, value);
+    let d = digits::put_hex(&mut line, c, reply.value);
     let e = digits::put(&mut line, d, b' ');
     let f = put_outputs(&mut line, e, outputs);
-    print(&mut line, f);
+    let g = put_next(&mut line, f, reply.owner);
+    print(&mut line, g);
 }
 
 pub fn event_done(outputs: Outputs) {
@@ -95,12 +99,12 @@ fn put_state(line: &mut [u8], at: usize, device: Device) -> usize {
     put_bytes(line, at, &bytes, state::SIZE)
 }
 
-// Room for the longest line of each kind: two digits for each byte of a saved state or an image, eight for each value of a log.
+// Room for the longest line of each kind: two digits for each byte of a saved state or an image, sixteen for each entry of a log.
 const STATE_LINE: usize = 256;
 
 const COMPILED_LINE: usize = 33000;
 
-const RUN_LINE: usize = 17000;
+const RUN_LINE: usize = 34000;
 
 pub fn state(device: Device) {
     let mut line = [0u8; STATE_LINE];
@@ -172,27 +176,33 @@ fn put_sequencer(line: &mut [u8], at: usize, sequencer: Sequencer) -> usize {
     put_counters(line, b, &counters)
 }
 
-fn put_values(line: &mut [u8], at: usize, values: &[u32], size: usize) -> usize {
+// The owner and the value, eight digits each.
+fn put_entry(line: &mut [u8], at: usize, entry: u64) -> usize {
+    let next = digits::put_hex(line, at, log::owner(entry));
+    digits::put_hex(line, next, log::value(entry))
+}
+
+fn put_entries(line: &mut [u8], at: usize, log: &[u64], size: usize) -> usize {
     let mut next = at;
-    for k in 0..values.len() {
+    for k in 0..log.len() {
         if size <= k {
             return next;
         }
-        next = digits::put_hex(line, next, values[k]);
+        next = put_entry(line, next, log[k]);
     }
     next
 }
 
-fn put_log(line: &mut [u8], at: usize, log: &[u32], size: usize) -> usize {
+fn put_log(line: &mut [u8], at: usize, log: &[u64], size: usize) -> usize {
     if size == 0 {
         return at;
     }
     let next = digits::put(line, at, b' ');
-    put_values(line, next, log, size)
+    put_entries(line, next, log, size)
 }
 
-// The sequencer and the device after a run, and the first `size` values of the log.
-fn put_session(line: &mut [u8], at: usize, session: Session, log: &[u32], size: usize) -> usize {
+// The sequencer and the device after a run, and the first `size` entries of the log.
+fn put_session(line: &mut [u8], at: usize, session: Session, log: &[u64], size: usize) -> usize {
     let device = session.device;
     let sequencer = session.sequencer;
     let a = put_sequencer(line, at, sequencer);
@@ -209,14 +219,14 @@ fn put_ended(line: &mut [u8], result: RunResult) -> usize {
     put_next(line, d, short(result.logged))
 }
 
-pub fn run_ended(result: RunResult, session: Session, log: &[u32], size: usize) {
+pub fn run_ended(result: RunResult, session: Session, log: &[u64], size: usize) {
     let mut line = [0u8; RUN_LINE];
     let a = put_ended(&mut line, result);
     let b = put_session(&mut line, a, session, log, size);
     print(&mut line, b);
 }
 
-pub fn run_refused(number: u32, place: u32, session: Session, log: &[u32], size: usize) {
+pub fn run_refused(number: u32, place: u32, session: Session, log: &[u64], size: usize) {
     let mut line = [0u8; RUN_LINE];
     let a = put_refusal(&mut line, number, place);
     let b = put_session(&mut line, a, session, log, size);

@@ -12,9 +12,8 @@ fn access(device: Device, access: Access) -> Device {
     let r = device.single_access(access);
     let next = r.device;
     let reply = r.reply;
-    let outputs = reply.outputs;
     if reply.refusal == 0 {
-        answer::access_done(reply.status, reply.value, outputs);
+        answer::access_done(reply);
     } else {
         answer::refused(reply.refusal, reply.place);
     }

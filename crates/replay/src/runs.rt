@@ -84,10 +84,10 @@ struct RunRequest {
 // The greatest length of the log.
 const LOG_SIZE: usize = 2048;
 
-// Fills the log with a pattern, so that the answer shows which values the run leaves unchanged.
-fn lend(log: &mut [u32; LOG_SIZE]) {
+// Fills the log with a pattern, so that the answer shows which entries the run leaves unchanged.
+fn lend(log: &mut [u64; LOG_SIZE]) {
     for k in 0..LOG_SIZE {
-        log[k] = 0xA000_0000 + (k as u32);
+        log[k] = 0xA000_0000_0000_0000 + (k as u64);
     }
 }
 
@@ -99,7 +99,7 @@ fn session_of(result: RunResult) -> Session {
 }
 
 // After a refusal the session is unchanged.
-fn answered(session: Session, result: RunResult, log: &[u32], size: usize) -> Session {
+fn answered(session: Session, result: RunResult, log: &[u64], size: usize) -> Session {
     if sequencer::is_refusal(result.outcome) {
         answer::run_refused(result.outcome, result.place, session, log, size);
         return session;
@@ -116,7 +116,7 @@ fn run_within(
     request: RunRequest,
     bytes: &[u8],
     events: &[u32],
-    log: &mut [u32],
+    log: &mut [u64],
 ) -> Session {
     let count = request.bytes;
     let number = request.events;
@@ -158,7 +158,7 @@ fn run_on(
     request: RunRequest,
     bytes: &[u8; strings::MOST_BYTES],
     events: &[u32; strings::MOST_EVENTS],
-    log: &mut [u32; LOG_SIZE],
+    log: &mut [u64; LOG_SIZE],
 ) -> Session {
     run_within(session, request, bytes, events, log)
 }
@@ -166,7 +166,7 @@ fn run_on(
 fn run_request(session: Session, line: &[u8], request: RunRequest) -> Session {
     let mut bytes = [0u8; strings::MOST_BYTES];
     let mut events = [0u32; strings::MOST_EVENTS];
-    let mut log = [0u32; LOG_SIZE];
+    let mut log = [0u64; LOG_SIZE];
     strings::copy_bytes(line, request.bytes_at, request.bytes, &mut bytes);
     strings::copy_numbers(line, request.events_at, request.events, &mut events);
     lend(&mut log);

@@ -2,7 +2,7 @@
 -- and leaves in the saved state is in `state/specs/Call.antt`. See bindings/c/runnelopal.h.
 use Prim.Native.Nat.{ℕ, suc}
 use mathlib.Core.Bool.{Bool, cond}
-use mathlib.Core.List.{List, [], _∷_}
+use mathlib.Core.List.{List, [], _∷_, _++_}
 use lib.ListN.{set}
 use Rattle.access.specs.declared.Access.{Access}
 use Rattle.device.specs.Device.{freshDevice}
@@ -40,7 +40,7 @@ abbrev pub accessOf : Bool → (width port value : ℕ) → Access
 accessOf write w p v = record { write = write; width = w; port = p; value = v }
 
 abbrev pub accessNumbers : AccessReply → List ℕ
-accessNumbers r = r .place ∷ r .status ∷ r .value ∷ outputNumbers (r .outputs)
+accessNumbers r = r .place ∷ r .status ∷ r .value ∷ (outputNumbers (r .outputs) ++ (r .owner ∷ []))
 
 abbrev pub eventNumbers : EventReply → List ℕ
 eventNumbers r = r .place ∷ outputNumbers (r .outputs)

@@ -1,5 +1,6 @@
 // The functions for programs in other languages. They take numbers and slices, and give an answer whatever these contain. The result
-// is 0, a refusal, or the ending of a run. Further numbers go into the slice `answer`, as many as fit. See bindings/c/runnelopal.h.
+// is 0, a refusal, or the ending of a run; the two calls about an entry of the log return its numbers. Further numbers go into the slice
+// `answer`, as many as fit. See bindings/c/runnelopal.h.
 use access::Access;
 use device::Device;
 use device::Outputs;
@@ -16,6 +17,7 @@ ghost use Rattle.device.specs.Device.{freshDevice};
 ghost use Rattle.sequencer.specs.Run.{logAfter};
 ghost use Rattle.step.specs.Sequencer.{freshSequencer};
 ghost use Rattle.little_endian.specs.Bytes.{flagByte};
+ghost use Rattle.log.specs.Entry.{entryOwner, entryValue};
 ghost use Rattle.state.specs.Call.{savedAccess, bytesAfterAccess, savedEvent, bytesAfterEvent};
 ghost use Rattle.state.specs.State.{saved, saveRefusal};
 ghost use Rattle.runnelopal.specs.Calls.{
@@ -97,7 +99,7 @@ pub extern "C" fn runnelopal_run(
     image: &[u8],
     events: &[u32],
     budget: u32,
-    log: &mut [u32],
+    log: &mut [u64],
     state: &mut [u8],
     answer: &mut [u64],
 ) -> u32
@@ -112,6 +114,22 @@ pub extern "C" fn runnelopal_run(
     save_run_unless_refused(state, r.outcome, next);
     put_run(answer, r);
     r.outcome
+}
+
+// The owner of the port in an entry of the log.
+#[no_mangle]
+pub extern "C" fn runnelopal_entry_owner(entry: u64) -> u32
+    ensures { λ r. ⌜ r ≡ entryOwner entry ⌝ }
+{
+    log::owner(entry)
+}
+
+// The value read in an entry of the log.
+#[no_mangle]
+pub extern "C" fn runnelopal_entry_value(entry: u64) -> u32
+    ensures { λ r. ⌜ r ≡ entryValue entry ⌝ }
+{
+    log::value(entry)
 }
 
 // Saves the fresh device into `state`. Refuses a slice that does not have the length of a state, with 11.
@@ -132,6 +150,7 @@ fn put_access(answer: &mut [u64], r: AccessReply)
     put(answer, 1, r.status as u64);
     put(answer, 2, r.value as u64);
     put_outputs(answer, 3, outputs);
+    put(answer, 6, r.owner as u64);
 }
 
 fn put_event(answer: &mut [u64], r: EventReply)
@@ -142,7 +161,8 @@ fn put_event(answer: &mut [u64], r: EventReply)
     put_outputs(answer, 1, outputs);
 }
 
-// One access to a saved device. In `answer`: the place of a refusal, the status, the value, SCI, SMI, the monitor interrupt.
+// One access to a saved device. In `answer`: the place of a refusal, the status, the value, SCI, SMI, the monitor interrupt, the owner of
+// the port.
 #[no_mangle]
 pub extern "C" fn runnelopal_access(
     state: &mut [u8],

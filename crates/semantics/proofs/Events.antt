@@ -15,13 +15,13 @@ use Rattle.semantics.specs.World.{
   World,
   afterAccess,
   afterDelay,
+  entryLogged,
   eventsAfter,
   afterRead,
   readOf,
   sharesOne,
   startWorld,
   afterTest,
-  valueRead,
   afterWrite,
 }
 
@@ -38,8 +38,9 @@ after-drop (suc n) (x ∷ xs) = after-drop n xs
 one-more : (ms : List AccessEntry) (m : AccessEntry) → length (ms ++ (m ∷ [])) ≡ suc (length ms)
 one-more ms m = let l = length-append ms (m ∷ []) in omega (arith, l)
 
-after-access-one : (all : List ℕ) (w : World) (x : Access) (values : List ℕ) → OneEach all w → OneEach all (afterAccess w x values)
-after-access-one all w x values h =
+after-access-one :
+    (all : List ℕ) (w : World) (x : Access) (entries : List ℕ) → OneEach all w → OneEach all (afterAccess w x entries)
+after-access-one all w x entries h =
     ap eventsAfter h ∙ after-drop (length (w .accesses)) all
     ∙ ap (λ (n : ℕ). drop n all) (sym (one-more (w .accesses) _))
 
@@ -49,7 +50,7 @@ after-write-one all p wd v w h = after-access-one all w _ [] h
 
 read-one : (all : List ℕ) (p wd : ℕ) (w : World) → OneEach all w → OneEach all (afterRead p wd w)
 unfolding afterRead
-read-one all p wd w h = after-access-one all w (readOf p wd) (valueRead p wd w ∷ []) h
+read-one all p wd w h = after-access-one all w (readOf p wd) (entryLogged p wd w ∷ []) h
 
 after-test-one : (all : List ℕ) (p wd : ℕ) (w : World) → OneEach all w → OneEach all (afterTest p wd w)
 unfolding afterTest

@@ -11,15 +11,19 @@ use Rattle.device.specs.Dispatch.{deviceAccess}
 use Rattle.device.specs.declared.Device.{Device}
 use Rattle.device.specs.declared.Outputs.{Outputs}
 use Rattle.device.specs.declared.AccessResult.{AccessResult}
+use Rattle.log.specs.Entry.{logEntry}
 use Rattle.mask.specs.Mask.{hasBit}
 
--- "Definitions list each write, read and test as one access with its whole answer."
+-- "Definitions list each write, read and test as one access with its whole answer." A later request: "Let each access also return the
+-- block that owns the port"
 pub record AccessEntry : Type 0 where
   pub access : Access
+  pub owner : ℕ
   pub answer : Answer
   pub outputs : Outputs
 
--- "device, events left, values logged, accesses"; the values and accesses are in the order in which they were made
+-- "device, events left, values logged, accesses"; a value is logged with its owner, as an entry of the log. The entries and accesses are in
+-- the order in which they were made
 pub record World : Type 0 where
   pub device : Device
   pub events : List ℕ
@@ -52,14 +56,14 @@ abbrev pub answerTo : World → Access → AccessResult
 answerTo w x = deviceAccess (afterNextEvent (w .device) (w .events)) x
 
 abbrev pub accessEntry : Access → AccessResult → AccessEntry
-accessEntry x r = record { access = x; answer = r .answer; outputs = outputsOf (r .device) }
+accessEntry x r = record { access = x; owner = r .owner; answer = r .answer; outputs = outputsOf (r .device) }
 
--- the world after an access that logs these values
+-- the world after an access that logs these entries
 abbrev pub afterAccess : World → Access → List ℕ → World
-afterAccess w x values = record {
+afterAccess w x entries = record {
   device = answerTo w x .device;
   events = eventsAfter (w .events);
-  logged = w .logged ++ values;
+  logged = w .logged ++ entries;
   accesses = w .accesses ++ (accessEntry x (answerTo w x) ∷ []);
 }
 
@@ -70,9 +74,13 @@ afterWrite p wd v w = afterAccess w (writeOf p wd v) []
 unfoldable pub valueRead : (port width : ℕ) → World → ℕ
 valueRead p wd w = answerTo w (readOf p wd) .answer .value
 
+-- what a read logs: "The log keeps it beside each value, in the script's own run too"
+unfoldable pub entryLogged : (port width : ℕ) → World → ℕ
+entryLogged p wd w = logEntry (answerTo w (readOf p wd) .owner) (valueRead p wd w)
+
 -- "A read appends its value to the log, at any status"
 unfoldable pub afterRead : (port width : ℕ) → World → World
-afterRead p wd w = afterAccess w (readOf p wd) (valueRead p wd w ∷ [])
+afterRead p wd w = afterAccess w (readOf p wd) (entryLogged p wd w ∷ [])
 
 -- "a test uses its value likewise and logs nothing"
 unfoldable pub afterTest : (port width : ℕ) → World → World

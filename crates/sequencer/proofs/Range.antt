@@ -23,10 +23,10 @@ use Rattle.semantics.specs.World.{
   afterDelay,
   afterNextEvent,
   afterRead,
+  entryLogged,
   readOf,
   startWorld,
   afterTest,
-  valueRead,
   writeOf,
   afterWrite,
 }
@@ -239,8 +239,8 @@ execute-logs room words r m c h =
     branch P (eqb (r .kind) 1) none
     (branch-on P (eqb (r .kind) 2) (λ k.
     let left = read-room room (length logged) r (eqb-true (r .kind) 2 k) (c .log-room) in
-    let value = valueRead (r .port) (r .width) (m .world) in
-    omega (arith, left, length-append logged (value ∷ []))) (λ k.
+    let entry = entryLogged (r .port) (r .width) (m .world) in
+    omega (arith, left, length-append logged (entry ∷ []))) (λ k.
     branch P (eqb (r .kind) 3) h
     (branch P (eqb (r .kind) 4) (branch P (eqb (r .value) 0) h h)
     (branch P (eqb (r .kind) 5) (branch P (eqb (innermost (m .counters) - 1) 0) h h)

@@ -195,7 +195,7 @@ fn count_step(steps: u32) -> u32
     steps + 1
 }
 
-// Runs the words of an image until the run ends. The device and the answer of its last access are one local, `last`, so that
+// Runs the words of an image until the run ends. The device and the answer to its last access are one local, `last`, so that
 // each access copies the device only once.
 fn run_words(
     image: &[u8],
@@ -203,7 +203,7 @@ fn run_words(
     sequencer: Sequencer,
     events: &[u32],
     budget: u32,
-    log: &mut [u32],
+    log: &mut [u64],
 ) -> RunResult
     requires { ⌜ (imageWords (now image) ≤ mostRecords) × (sequencerInRange sequencer ≡ true) ⌝ }
     ensures { λ r. ⌜ EndsAs (now (events .entry)) (now (log .entry)) (now (log .exit)) r (imageRun (now (image .entry)) device sequencer (now (events .entry)) budget (length (now (log .entry)))) ⌝ }
@@ -211,6 +211,7 @@ fn run_words(
     let words = (image.len() / Record::SIZE) as u32;
     let mut last = AccessResult {
         device,
+        owner: Device::NOBODY,
         answer: Answer::status_only(Answer::DONE),
     };
     let mut position = start(sequencer);
@@ -253,7 +254,7 @@ fn run_words(
                 last.device = arrived;
             }
             last = last.device.access(execute::access_of(word));
-            position = position.apply_answer(word, last.answer.value, events, log);
+            position = position.apply_answer(word, last.owner, last.answer.value, events, log);
             steps = count_step(steps);
         }
     }
@@ -273,7 +274,7 @@ pub fn run(
     sequencer: Sequencer,
     events: &[u32],
     budget: u32,
-    log: &mut [u32],
+    log: &mut [u64],
 ) -> RunResult
     ensures { λ r. ⌜ (r ≡ runAnswer (now (image .entry)) device sequencer (now (events .entry)) budget (now (log .entry))) × (now (log .exit) ≡ logAfter (now (image .entry)) device sequencer (now (events .entry)) budget (now (log .entry))) ⌝ }
 {

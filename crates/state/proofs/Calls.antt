@@ -38,7 +38,8 @@ module _ (bytes : List ℕ) where
     access-refused r h e differs = (rw (h, e, ne-eqb r 0 differs), rw (h, e, ne-eqb r 0 differs, ne-eqb r 0 differs))
 
     pub access-made : holdsDevice bytes ≡ true → accessRefusal (deviceFrom bytes) x ≡ 0
-        → (accessDone (deviceAccess (deviceFrom bytes) x .answer) (outputsOf (deviceAccess (deviceFrom bytes) x .device)) ≡ savedAccess bytes x)
+        → (accessDone (deviceAccess (deviceFrom bytes) x .owner) (deviceAccess (deviceFrom bytes) x .answer) (outputsOf (deviceAccess (deviceFrom bytes) x .device))
+        ≡ savedAccess bytes x)
         × (saved (deviceAccess (deviceFrom bytes) x .device) bytes ≡ bytesAfterAccess bytes x)
     unfolding savedAccess bytesAfterAccess singleAccess saved
     access-made h e = (rw (h, e), rw (h, e, eq-eqb (length bytes) stateSize (holds-length bytes h)))

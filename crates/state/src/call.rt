@@ -22,7 +22,7 @@ pub fn access(bytes: &mut [u8], access: Access) -> AccessReply
     let next = made.device;
     let outputs = next.outputs();
     crate::save(next, bytes);
-    AccessReply::done(answer, outputs)
+    AccessReply::done(made.owner, answer, outputs)
 }
 
 pub fn event(bytes: &mut [u8], number: u32) -> EventReply

@@ -16,11 +16,13 @@ use Rattle.device.specs.declared.Device.{Device}
 use Rattle.device.specs.declared.AccessResult.{AccessResult}
 use Rattle.mask.specs.Mask.{hasBit}
 use Rattle.lists.proofs.Stores.{stored}
+use Rattle.log.specs.Entry.{logEntry}
 use Rattle.record.specs.declared.Record.{Record}
 use Rattle.semantics.specs.World.{
   afterAccess,
   answerTo,
   afterDelay,
+  entryLogged,
   eventsAfter,
   afterNextEvent,
   afterRead,
@@ -155,7 +157,7 @@ test-failed word x events r t v k g e b = λ log lent m h.
     ap (hasBit (word .value)) (sym (ap (λ (y : AccessResult). y .answer .value) (same-answer h g)) ∙ e) ∙ b in
     rw (execute-test word m k, s) (after-access h g refl)
 
--- ---- a read, which logs its value
+-- ---- a read, which logs its owner and its value
 abbrev pub readTo : RunState → AccessResult → (taken : ℕ) → RunState
 readTo x r t = record {
   device = r .device;
@@ -166,28 +168,28 @@ readTo x r t = record {
   logged = x .logged + 1;
 }
 
-one-more : (values : List ℕ) (v : ℕ) → length (values ++ (v ∷ [])) ≡ suc (length values)
-one-more values v = let l = length-append values (v ∷ []) in omega (arith, l)
+one-more : (entries : List ℕ) (e : ℕ) → length (entries ++ (e ∷ [])) ≡ suc (length entries)
+one-more entries e = let l = length-append entries (e ∷ []) in omega (arith, l)
 
--- storing a value at the number of values logged appends it to the filled part of the log
+-- storing an entry at the number of entries appends it to the filled part of the log
 logs :
-    (values lent log : List ℕ) (n v : ℕ) → n ≡ length values → log ≡ values ++ drop (length values) lent → n < length log
-    → set log n v ≡ (values ++ (v ∷ [])) ++ drop (length (values ++ (v ∷ []))) lent
-logs values lent log n v e h l =
-    let a = length-append values (drop (length values) lent) in
-    let d = length-drop (length values) lent in
-    let b : length log ≡ length (values ++ drop (length values) lent) = ap length h in
-    rw (e, one-more values v) (stored values lent log v h (omega (arith, a, b, d, e, l)))
+    (entries lent log : List ℕ) (n new : ℕ) → n ≡ length entries → log ≡ entries ++ drop (length entries) lent → n < length log
+    → set log n new ≡ (entries ++ (new ∷ [])) ++ drop (length (entries ++ (new ∷ []))) lent
+logs entries lent log n new e h l =
+    let a = length-append entries (drop (length entries) lent) in
+    let d = length-drop (length entries) lent in
+    let b : length log ≡ length (entries ++ drop (length entries) lent) = ap length h in
+    rw (e, one-more entries new) (stored entries lent log new h (omega (arith, a, b, d, e, l)))
 
 pub read-out :
-    (word : Record) (x : RunState) (events log : List ℕ) (r : AccessResult) (t v : ℕ) → word .kind ≡ 2
-    → Accessing x events (readOf (word .port) (word .width)) r t → r .answer .value ≡ v → x .logged < length log
-    → Implements word events x log (readTo x r t) (set log (x .logged) v)
-unfolding afterRead valueRead
-read-out word x events log r t v k g e l = λ lent m h.
+    (word : Record) (x : RunState) (events log : List ℕ) (r : AccessResult) (t entry : ℕ) → word .kind ≡ 2
+    → Accessing x events (readOf (word .port) (word .width)) r t → entry ≡ logEntry (r .owner) (r .answer .value) → x .logged < length log
+    → Implements word events x log (readTo x r t) (set log (x .logged) entry)
+unfolding afterRead entryLogged valueRead
+read-out word x events log r t entry k g e l = λ lent m h.
     let s = same-answer h g in
-    let w : v ≡ answerTo (m .world) (readOf (word .port) (word .width)) .answer .value =
-    sym e ∙ ap (λ (y : AccessResult). y .answer .value) s in
+    let w : entry ≡ entryLogged (word .port) (word .width) (m .world) =
+    e ∙ ap (λ (y : AccessResult). logEntry (y .owner) (y .answer .value)) s in
     rw (execute-read word m k)
     (record {
       device = ap (λ (y : AccessResult). y .device) s;

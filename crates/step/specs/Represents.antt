@@ -93,9 +93,9 @@ pub record AccessReady (x : Position) (word : Record) (log : List ℕ) : Type 0 
 abbrev pub accessOf : Record → Access
 accessOf r = cond (eqb (r .kind) wordKind.write) (writeOf (r .port) (r .width) (r .value)) (readOf (r .port) (r .width))
 
--- the step of the code does what the word does, given the value that the access returned after the next event
-abbrev pub ImplementsAccess : Record → ℕ → List ℕ → Position → List ℕ → Position → List ℕ → Type 0
-ImplementsAccess word value events x log y log' =
+-- the step of the code does what the word does, given the owner and the value that the access returned after the next event
+abbrev pub ImplementsAccess : Record → (owner value : ℕ) → List ℕ → Position → List ℕ → Position → List ℕ → Type 0
+ImplementsAccess word owner value events x log y log' =
     (d arrived : Device) (cs : List ℕ) (r : AccessResult) → arrived ≡ afterNextEvent d (drop (x .taken) events)
-    → r ≡ deviceAccess arrived (accessOf word) → r .answer .value ≡ value
+    → r ≡ deviceAccess arrived (accessOf word) → r .owner ≡ owner → r .answer .value ≡ value
     → Implements word events (runState d x cs) log (runState (r .device) y cs) log'

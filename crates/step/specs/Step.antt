@@ -96,4 +96,4 @@ nextStep image room m =
 
 -- ---- the log after a run; `lent` is the log before it. "The log fills from its front; the rest stays as lent."
 abbrev pub logFilled : List ℕ → List ℕ → List ℕ
-logFilled values lent = values ++ drop (length values) lent
+logFilled entries lent = entries ++ drop (length entries) lent

@@ -143,18 +143,25 @@ impl Position {
 // ---- words that access the device
 
 impl Position {
-    // Completes a write, a read or a test whose access returned `value`: counts its event, logs the value of a read, and moves to
+    // Completes a write, a read or a test whose access returned `owner` and `value`: counts its event, logs both for a read, and moves to
     // the next place. A test whose mask has no common 1 with the value jumps.
-    pub fn apply_answer(mut self, word: Record, value: u32, events: &[u32], log: &mut [u32]) -> Self
+    pub fn apply_answer(
+        mut self,
+        word: Record,
+        owner: u32,
+        value: u32,
+        events: &[u32],
+        log: &mut [u64],
+    ) -> Self
         requires { ⌜ (self .place < mostRecords) × (self .taken ≤ length (now events)) × AccessReady self word (now log) ⌝ }
-        ensures { λ r. ⌜ ImplementsAccess word value (now (events .entry)) self (now (log .entry)) r (now (log .exit)) ⌝ }
+        ensures { λ r. ⌜ ImplementsAccess word owner value (now (events .entry)) self (now (log .entry)) r (now (log .exit)) ⌝ }
     {
         let kind = word.kind;
         let after = events_taken(events, self.taken);
         self.taken = after;
         if kind == word_kind::READ {
             let at = self.logged;
-            log[at] = value;
+            log[at] = log::entry(owner, value);
             self.logged = at + 1;
             self.place = self.place + 1;
             return self;

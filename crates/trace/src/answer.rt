@@ -2,9 +2,9 @@
 use libc::STDOUT_FILENO;
 use sequencer::RunResult;
 ghost use mathlib.Core.Path.{_≡_};
-ghost use lib.ListN.{take};
+ghost use lib.ListN.{length, take};
 ghost use Rattle.digits.specs.Text.{lineAt, puts};
-ghost use Rattle.trace.specs.Printed.{readText, readsText, numbersText, endText, refusedText, printed};
+ghost use Rattle.trace.specs.Printed.{readText, readsText, numbersText, endText, refusedText, printed, logSize, textSize};
 
 fn write(text: &[u8], end: usize) {
     if end <= text.len() {
@@ -12,16 +12,19 @@ fn write(text: &[u8], end: usize) {
     }
 }
 
-fn put_read(text: &mut [u8], at: usize, value: u32) -> usize
-    ensures { λ r. ⌜ lineAt (now (text .exit)) r ≡ puts (readText value) (lineAt (now (text .entry)) at) ⌝ }
+// Puts the value and the owner of an entry.
+fn put_read(text: &mut [u8], at: usize, entry: u64) -> usize
+    ensures { λ r. ⌜ lineAt (now (text .exit)) r ≡ puts (readText entry) (lineAt (now (text .entry)) at) ⌝ }
 {
     let a = digits::put_text(text, at, b"READ ");
-    let b = digits::put_hex(text, a, value);
-    digits::put(text, b, b'\n')
+    let b = digits::put_hex(text, a, log::value(entry));
+    let c = digits::put(text, b, b' ');
+    let d = digits::put_decimal(text, c, log::owner(entry));
+    digits::put(text, d, b'\n')
 }
 
-// Puts a line for each of the first `logged` values.
-fn put_reads(text: &mut [u8], log: &[u32], logged: usize) -> usize
+// Puts a line for each of the first `logged` entries.
+fn put_reads(text: &mut [u8], log: &[u64], logged: usize) -> usize
     ensures { λ r. ⌜ lineAt (now (text .exit)) r ≡ puts (readsText (take logged (now (log .entry)))) (lineAt (now (text .entry)) 0) ⌝ }
 {
     let mut next: usize = 0;
@@ -59,7 +62,7 @@ fn put_end(text: &mut [u8], outcome: u32, steps: u32, at: usize) -> usize
 }
 
 // Puts the whole text and returns its length.
-fn put_result(text: &mut [u8], result: RunResult, log: &[u32]) -> usize
+fn put_result(text: &mut [u8], result: RunResult, log: &[u64]) -> usize
     ensures { λ r. ⌜ lineAt (now (text .exit)) r ≡ puts (printed result (now (log .entry))) (lineAt (now (text .entry)) 0) ⌝ }
 {
     if sequencer::is_refusal(result.outcome) {
@@ -69,11 +72,23 @@ fn put_result(text: &mut [u8], result: RunResult, log: &[u32]) -> usize
     put_end(text, result.outcome, result.steps, at)
 }
 
-// Room for 1,024 lines of 14 bytes and the last line.
-const TEXT_SIZE: usize = 14400;
+// The log has room for this many entries.
+pub const LOG_SIZE: usize = 1024;
 
-pub fn print(result: RunResult, log: &[u32]) {
+// Room for 1,024 lines of at most 25 bytes, and for the last line of at most 26. With an owner of one digit a line has 16 bytes; the proof
+// allows an owner any 32-bit number.
+const TEXT_SIZE: usize = 25626;
+
+// The buffer has room for the whole text.
+fn put_whole(text: &mut [u8], result: RunResult, log: &[u64]) -> usize
+    requires { ⌜ (length (now text) ≡ textSize) × (length (now log) ≡ logSize) ⌝ }
+    ensures { λ r. ⌜ (r ≡ length (printed result (now (log .entry)))) × (lineAt (now (text .exit)) r ≡ puts (printed result (now (log .entry))) (lineAt (now (text .entry)) 0)) ⌝ }
+{
+    put_result(text, result, log)
+}
+
+pub fn print(result: RunResult, log: &[u64; LOG_SIZE]) {
     let mut text = [0u8; TEXT_SIZE];
-    let end = put_result(&mut text, result, log);
+    let end = put_whole(&mut text, result, log);
     write(&text, end);
 }

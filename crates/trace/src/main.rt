@@ -1,5 +1,5 @@
-// The program `trace` runs the script on standard input on the fresh device. It prints the values that are logged and the ending, or
-// the refusal. See docs/CHIP.md, "Runs".
+// The program `trace` runs the script on standard input on the fresh device. It prints the values that are logged, each with the owner of
+// its port, and the ending, or the refusal. See docs/CHIP.md, "Runs".
 mod answer;
 
 use device::Device;
@@ -7,15 +7,12 @@ use libc::STDIN_FILENO;
 
 const BUDGET: u32 = 100_000;
 
-// The log has room for this many values.
-const LOG_SIZE: usize = 1024;
-
 // The size of the script buffer: one record more than a script may have, so 12 times 1,025 bytes.
 const SCRIPT_SIZE: usize = 12300;
 
 // There are no events.
 fn trace(script: &[u8]) {
-    let mut log = [0u32; LOG_SIZE];
+    let mut log = [0u64; answer::LOG_SIZE];
     let events = [0u32; 0];
     let device = Device::fresh();
     let result = correct::compile_and_run(script, device, &events, BUDGET, &mut log);

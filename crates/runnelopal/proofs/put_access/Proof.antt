@@ -24,11 +24,17 @@ put-requires-3 c κs = search needs
 put-outputs-requires : tie.Need-put-outputs-requires
 put-outputs-requires c κs = search needs
 
+cast-put-4 : tie.Need-cast-put-4
+cast-put-4 c = search needs
+
+put-requires-4 : tie.Need-put-requires-4
+put-requires-4 c κs = search needs
+
 same-length : tie.Need-same-length
 same-length c = search needs
 
 returns : tie.Need-returns
-returns c = simp (c .before .before .before .before .before .before .before .before .before .before .before .before .before .before .before .before .put .ensures, c .before .before .before .before .before .before .before .before .before .before .before .put2 .ensures, c .before .before .before .before .before .before .put3 .ensures, c .before .before .put-outputs .ensures)
+returns c = simp (c .before .before .before .before .before .before .before .before .before .before .before .before .before .before .before .before .before .before .before .before .before .put .ensures, c .before .before .before .before .before .before .before .before .before .before .before .before .before .before .before .before .put2 .ensures, c .before .before .before .before .before .before .before .before .before .before .before .put3 .ensures, c .before .before .before .before .before .before .before .put-outputs .ensures, c .before .before .put4 .ensures)
 
 pub put-access-spec : {M : Type 1} → statement M
 put-access-spec =
@@ -41,5 +47,7 @@ put-access-spec =
     cast-put-3
     put-requires-3
     put-outputs-requires
+    cast-put-4
+    put-requires-4
     same-length
     returns)

@@ -295,7 +295,7 @@ loop-again-3 c = λ s h q.
     let t = access .before .before .before in
     let done = access .access .ensures ∙ ap (deviceAccess _) (access .before .access-of .ensures) in
     rw (c .count-step3 .ensures)
-    (next-word (access-of t) (answer .apply-answer .ensures _ _ _ _ (arrived (access .before .before)) done refl) (answer .apply-answer .kept .1 .1 .1 .1 .0) s h q)
+    (next-word (access-of t) (answer .apply-answer .ensures _ _ _ _ (arrived (access .before .before)) done refl refl) (answer .apply-answer .kept .1 .1 .1 .1 .1 .0) s h q)
 
 -- ---- the budget is spent
 run-result-requires-4 : tie.Need-run-result-requires-4 Inv-loop μ-loop

@@ -1,4 +1,5 @@
--- `Device::access` returns `deviceAccess`: the answer of `dispatch`, changed by `final_answer`, and the device after `settle`.
+-- `Device::access` returns `deviceAccess`: the owner and the answer of `dispatch`, the answer changed by `final_answer`, and the device
+-- after `settle`.
 use mathlib.Core.Path.{_≡_}
 use borrow.Author.Needs.{needs}
 use Rattle.access.specs.declared.Access.{Access}
@@ -12,7 +13,8 @@ use Rattle.device.proofs.Device.access.Tie as tie
 
 given-and-settled :
     (d : Device) (x : Access) (owned : AccessResult) (given : Answer) (next : Device) → owned ≡ dispatch d x
-    → given ≡ finalAnswer x (owned .answer) → next ≡ settleDevice (owned .device) → accessResult given next ≡ deviceAccess d x
+    → given ≡ finalAnswer x (owned .answer) → next ≡ settleDevice (owned .device)
+    → accessResult (owned .owner) given next ≡ deviceAccess d x
 unfolding deviceAccess
 given-and-settled d x owned given next o g n = rw (n, g, o)
 

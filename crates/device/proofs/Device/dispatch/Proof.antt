@@ -1,38 +1,27 @@
--- `Device::dispatch` returns `dispatch`: each arm of the `match` calls the owner, and its answer is the
--- entry of `answers` at the number of the owner.
-use Prim.Native.Nat.{ℕ, zero, suc}
-use mathlib.Core.Path.{_≡_, refl, ap, sym, _∙_}
+-- `Device::dispatch` returns `dispatch`: each arm of the `match` calls the owner, its answer is the element of `answers` at the number of
+-- the owner, and the result has that number.
+use Prim.Native.Nat.{ℕ}
+use mathlib.Core.Path.{_≡_, ap, sym, _∙_}
 use native.Mathlib.Omega.{arith}
 use borrow.Author.Needs.{needs}
 use lib.ListN.{getD}
+use Rattle.access.specs.Block.{Result, result}
 use Rattle.access.specs.declared.Access.{Access}
 use Rattle.access.specs.declared.Answer.{Answer}
-use Rattle.device.proofs.Claims.{acpi-owns, config-owns, key-byte, key-owns, monitor-owns}
+use Rattle.device.proofs.Claims.{acpi-owns, config-owns, key-byte, key-owns, monitor-owns, owner-at-most}
 use Rattle.device.specs.Device.{withAcpi, withConfig, withKey, withMonitor}
-use Rattle.device.specs.Dispatch.{accessResult, answeredBy, answers, dispatch, unclaimed}
-use Rattle.device.specs.Owner.{acpi, configuration, key, monitor, owner}
-use Rattle.device.specs.declared.AccessResult.{AccessResult}
+use Rattle.device.specs.Dispatch.{answeredBy, answers, dispatch, ownedBy, unclaimed}
+use Rattle.device.specs.Owner.{acpi, configuration, key, monitor, nobody, owner}
 use Rattle.device.specs.declared.Device.{Device}
 use Rattle.device.proofs.Device.dispatch.Statement.{statement}
 use Rattle.device.proofs.Device.dispatch.Tie as tie
 
--- ---- a result that equals the entry at the number of the owner is the result of `dispatch`
+-- ---- the element at the number of the owner, with this number, is the result of `dispatch`
 by-owner :
-    (d : Device) (x : Access) (k : ℕ) (r : AccessResult) → owner (d .config) (x .port) ≡ k
-    → r ≡ getD (answers d x) k (unclaimed d) → r ≡ dispatch d x
+    (d : Device) (x : Access) (k : ℕ) (r : Result Device) → owner (d .config) (x .port) ≡ k → r ≡ getD (answers d x) k (unclaimed d)
+    → ownedBy k r ≡ dispatch d x
 unfolding dispatch
-by-owner d x k r o e = e ∙ sym (rw o)
-
--- the entry at a number that no block has is status 1
-no-block :
-    (d : Device) (x : Access) (k : ℕ) → (k ≡ 1 → ⊥) → (k ≡ 2 → ⊥) → (k ≡ 3 → ⊥) → (k ≡ 4 → ⊥)
-    → unclaimed d ≡ getD (answers d x) k (unclaimed d)
-no-block d x zero a b c e = refl
-no-block d x (suc zero) a b c e = absurd (a refl)
-no-block d x (suc (suc zero)) a b c e = absurd (b refl)
-no-block d x (suc (suc (suc zero))) a b c e = absurd (c refl)
-no-block d x (suc (suc (suc (suc zero)))) a b c e = absurd (e refl)
-no-block d x (suc (suc (suc (suc (suc k))))) a b c e = refl
+by-owner d x k r o e = rw o (ap (ownedBy k) e)
 
 -- ---- the owner, in general and in each arm
 abbrev start : tie.After-owner → tie.Start
@@ -55,6 +44,13 @@ owns-monitor m = owner-is (m .before) ∙ m .match .keys3
 
 owns-key : (m : tie.At-match-keys4) → Owns (m .before) key
 owns-key m = owner-is (m .before) ∙ m .match .keys4
+
+owns-none : (m : tie.At-match-rest) → Owns (m .before) nobody
+owns-none m =
+    let r = m .match .rest in
+    let most = owner-at-most (start (m .before) .args .self .config) (start (m .before) .args .access .port) in
+    let o = owner-is (m .before) in
+    omega (arith, most, o, r .0 .0 .0 .1, r .0 .0 .1, r .0 .1, r .1)
 
 owner-requires : tie.Need-owner-requires
 owner-requires c κs = search needs
@@ -131,10 +127,7 @@ returns-5 : tie.Need-returns-5
 returns-5 c =
     let m = c .before in
     let s = start (m .before) in
-    let r = m .match .rest in
-    by-owner (s .args .self) (s .args .access) (m .before .owner .result) _ (owner-is (m .before))
-    (ap (λ (a : Answer). accessResult a (s .args .self)) (c .status-only .ensures)
-    ∙ no-block (s .args .self) (s .args .access) (m .before .owner .result) (r .0 .0 .0 .1) (r .0 .0 .1) (r .0 .1) (r .1))
+    by-owner (s .args .self) (s .args .access) nobody _ (owns-none m) (ap (λ (a : Answer). result a (s .args .self)) (c .status-only .ensures))
 
 pub dispatch-spec : {M : Type 1} → statement M
 dispatch-spec =

@@ -13,9 +13,6 @@ abbrev μ-loop : tie.MeasureT-loop
 loop-holds : tie.Need-loop-holds Inv-loop μ-loop
 loop-holds c = search needs
 
-cast-log : tie.Need-cast-log Inv-loop μ-loop
-cast-log c = search needs
-
 add-log : tie.Need-add-log Inv-loop μ-loop
 add-log c = search needs
 
@@ -44,7 +41,6 @@ lend-spec =
     Inv-loop
     μ-loop
     loop-holds
-    cast-log
     add-log
     mul-log
     element-write-log

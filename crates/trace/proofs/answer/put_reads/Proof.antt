@@ -1,4 +1,4 @@
--- `put_reads` puts `readsText` of the first `logged` values. The loop invariant: with the lines that are left, the text is complete.
+-- `put_reads` puts `readsText` of the first `logged` entries. The loop invariant: with the lines that are left, the text is complete.
 use Prim.Native.Nat.{suc, _≤_, _<_, _-_}
 use mathlib.Core.Path.{_≡_}
 use lib.ListN.{drop, take}

@@ -1,4 +1,4 @@
--- `put_result` puts `printed`: one line for a refusal, otherwise the values and the ending.
+-- `put_result` puts `printed`: one line for a refusal, otherwise the entries and the ending.
 use mathlib.Core.Path.{ap, sym, _∙_}
 use lib.ListN.{take}
 use Rattle.digits.proofs.Puts.{puts-both}

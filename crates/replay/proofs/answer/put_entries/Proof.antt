@@ -1,16 +1,16 @@
--- `put_values` is safe and ends: the line keeps its length, and the index counts up to the number of values.
+-- `put_entries` is safe and ends: the line keeps its length, and the index counts up to the number of entries.
 use Prim.Native.Nat.{_-_}
 use mathlib.Core.Path.{_≡_}
 use lib.ListN.{length}
 use borrow.Author.Needs.{needs}
-use Rattle.replay.proofs.answer.put_values.Statement.{statement}
-use Rattle.replay.proofs.answer.put_values.Tie as tie
+use Rattle.replay.proofs.answer.put_entries.Statement.{statement}
+use Rattle.replay.proofs.answer.put_entries.Tie as tie
 
 abbrev Inv-loop : tie.InvT-loop
-Inv-loop line₀ at values size next₀ k₀ k-end line next k = length line ≡ length line₀
+Inv-loop line₀ at log size next₀ k₀ k-end line next k = length line ≡ length line₀
 
 abbrev μ-loop : tie.MeasureT-loop
-μ-loop line₀ at values size next₀ k₀ k-end line next k = k-end - k
+μ-loop line₀ at log size next₀ k₀ k-end line next k = k-end - k
 
 loop-holds : tie.Need-loop-holds Inv-loop μ-loop
 loop-holds c = search needs
@@ -21,14 +21,14 @@ same-length c = search needs
 returns : tie.Need-returns Inv-loop μ-loop
 returns c = search needs
 
-mul-put-hex : tie.Need-mul-put-hex Inv-loop μ-loop
-mul-put-hex c = search needs
+mul-put-entry : tie.Need-mul-put-entry Inv-loop μ-loop
+mul-put-entry c = search needs
 
-shared-slice-read-put-hex : tie.Need-shared-slice-read-put-hex Inv-loop μ-loop
-shared-slice-read-put-hex c = search needs
+shared-slice-read-put-entry : tie.Need-shared-slice-read-put-entry Inv-loop μ-loop
+shared-slice-read-put-entry c = search needs
 
-put-hex-requires : tie.Need-put-hex-requires Inv-loop μ-loop
-put-hex-requires c κs = search needs
+put-entry-requires : tie.Need-put-entry-requires Inv-loop μ-loop
+put-entry-requires c κs = search needs
 
 add-k : tie.Need-add-k Inv-loop μ-loop
 add-k c = search needs
@@ -45,8 +45,8 @@ same-length-2 c = search needs
 returns-2 : tie.Need-returns-2 Inv-loop μ-loop
 returns-2 c = search needs
 
-pub put-values-spec : {M : Type 1} → statement M
-put-values-spec =
+pub put-entries-spec : {M : Type 1} → statement M
+put-entries-spec =
     tie.close
     (tie.spec
     Inv-loop
@@ -54,9 +54,9 @@ put-values-spec =
     loop-holds
     same-length
     returns
-    mul-put-hex
-    shared-slice-read-put-hex
-    put-hex-requires
+    mul-put-entry
+    shared-slice-read-put-entry
+    put-entry-requires
     add-k
     loop-less
     loop-again
