@@ -8,9 +8,9 @@
  * argument, and a call that cannot do what it is asked to do returns a refusal.
  *
  * The functions return 0, the number of a refusal, or, for runnelopal_run, how the run ended. The two functions about an entry of the log
- * return a number of the entry. Further results are stored in the array
- * `answer`, in the order that is listed at each function. If `answer` has fewer elements, the results that do not fit are dropped; if it
- * has more, the rest is not changed. After a refusal answer[0] is its place, and all other results are 0.
+ * return a number of the entry. Further results are stored in the array `answer`, in the order that is listed at each function. If `answer`
+ * has fewer elements, the results that do not fit are dropped; if it has more, the rest is not changed. After a refusal answer[0] is its
+ * place, and all other results are 0.
  */
 #ifndef RUNNELOPAL_H
 #define RUNNELOPAL_H

@@ -206,8 +206,8 @@ pub struct Run {
 }
 
 /// Runs an image on a fresh device, from its first word. `events` are the outside events; the next one is applied before each register
-/// access. `budget` is the greatest number of words to execute. Each read appends an entry to `log`, which
-/// [`LogEntry`] takes apart. Refusals: 10 and 12.
+/// access. `budget` is the greatest number of words to execute. Each read appends an entry to `log`, which [`LogEntry`] takes
+/// apart. Refusals: 10 and 12.
 pub fn run(image: &[u8], events: &[u32], budget: u32, log: &mut [u64]) -> Result<Run, Refusal> {
     let mut answer = [0u64; 5];
     let mut device = Device::fresh();

@@ -52,6 +52,9 @@ writing d w p v = deviceAccess d (record { write = true; width = w; port = p; va
 abbrev answers : AccessResult → ℕ → ℕ → Bool
 answers r s v = eqb (r .answer .status) s && eqb (r .answer .value) v
 
+abbrev pciReset : ℕ
+pciReset = 6 * 2 ^ 24 + 0
+
 abbrev tick : Device → Device
 tick d = applyEvent d (1 * 2 ^ 24 + 1)
 
@@ -75,7 +78,7 @@ p2 =
     answers (reading locked 1 0x002F) 0 0x07
     && (answers (writing locked 1 0x002F 0x00) 2 0
     && (eqb (writing locked 1 0x002F 0x00 .device .config .control) 0x07
-    && eqb (applyEvent (writing locked 1 0x002F 0x00 .device) (6 * 2 ^ 24 + 0) .config .control) 0x04))
+    && eqb (applyEvent (writing locked 1 0x002F 0x00 .device) pciReset .config .control) 0x04))
 
 -- ---- "P3 key base 0020h, active: 0020h is key byte 0, 002Eh configuration." Key control is 00h here, because its reset value
 -- sets the write-lock
@@ -240,19 +243,20 @@ wrongWidth =
     && (namedAt (reading lockedMonitor 4 0x0470) monitor 1
     && (namedAt (reading keyed 4 0x0020) key 1 && namedAt (reading keyed 1 0x0040) nobody 1)))
 
--- the owner of the moment: the key has a port until a write to the configuration deactivates it, or a PCI reset does
-abbrev deactivating : Device
-deactivating = configured (withActivate (withKeyBase (withIndex (withNumber (withUnlocked freshConfig true) 0x0A) 0x30) 0x0020) 0x01)
+-- the owner of the moment, on a device with the key at 0020h and the index at 30h (activate): the key has its ports until a write to the
+-- configuration deactivates it, or a PCI reset does
+abbrev keyActive : Device
+keyActive = configured (withActivate (withKeyBase (withIndex (withNumber (withUnlocked freshConfig true) 0x0A) 0x30) 0x0020) 0x01)
 
-abbrev deactivated : AccessResult
-deactivated = writing deactivating 1 0x002F 0x00
+abbrev deactivateWrite : AccessResult
+deactivateWrite = writing keyActive 1 0x002F 0x00
 
 unfoldable pub ownerOfTheMoment : Bool
 ownerOfTheMoment =
-    namedAt (reading deactivating 1 0x0020) key 0
-    && (namedAt deactivated configuration 0
-    && (namedAt (reading (deactivated .device) 1 0x0020) nobody 1
-    && namedAt (reading (applyEvent deactivating (6 * 2 ^ 24 + 0)) 1 0x0020) nobody 1))
+    namedAt (reading keyActive 1 0x0020) key 0
+    && (namedAt deactivateWrite configuration 0
+    && (namedAt (reading (deactivateWrite .device) 1 0x0020) nobody 1
+    && namedAt (reading (applyEvent keyActive pciReset) 1 0x0020) nobody 1))
 
 -- the script of the tracing program logs 04h and FFh: "the two lines of its case end in 1". `trace` has the text
 abbrev unlockScript : List ℕ
@@ -276,7 +280,7 @@ traceCase =
     && sameNumbers (scriptRun unlockScript freshDevice [] .world .logged)
     (logEntry configuration 0x04 ∷ logEntry configuration 0xFF ∷ [])
 
--- a script on the device above, with a PCI reset before its last write: a read, a test, a read, a write and a read. Both runs list the owner
+-- a script on the same device, with a PCI reset before its write: a read, a test, a read, a write and a read. Both runs list the owner
 -- of each, and log those of the three reads
 abbrev ownerScript : List ℕ
 ownerScript =
@@ -289,7 +293,7 @@ abbrev noTicks : ℕ
 noTicks = 1 * 2 ^ 24
 
 abbrev resetLater : List ℕ
-resetLater = noTicks ∷ noTicks ∷ noTicks ∷ (6 * 2 ^ 24 + 0) ∷ []
+resetLater = noTicks ∷ noTicks ∷ noTicks ∷ pciReset ∷ []
 
 abbrev ownersOf : List AccessEntry → List ℕ
 ownersOf [] = []
@@ -302,8 +306,8 @@ ownersIn w =
 
 unfoldable pub runOwners : Bool
 runOwners =
-    ownersIn (scriptRun ownerScript deactivating resetLater .world)
-    && ownersIn (imageRun (imageBytes (wordsOf ownerScript)) deactivating freshSequencer resetLater 100 10 .machine .world)
+    ownersIn (scriptRun ownerScript keyActive resetLater .world)
+    && ownersIn (imageRun (imageBytes (wordsOf ownerScript)) keyActive freshSequencer resetLater 100 10 .machine .world)
 
 abbrev pub ownerCases : List Bool
 ownerCases = wrongWidth ∷ ownerOfTheMoment ∷ traceCase ∷ runOwners ∷ []
