@@ -28,14 +28,25 @@ fn counted(number: usize, side: &str) -> Result<u64, String> {
 }
 
 fn items(row: &Row) -> Result<(u64, &'static str), String> {
-    let [ours, theirs] = [Side::Ours, Side::Theirs].map(|side| {
+    let each = |side: &Side| {
         let mut buffers = row.work.buffers();
-        (row.work.done(side, &mut buffers), buffers)
-    });
-    if ours != theirs {
-        return Err(format!("{}: the programs gave different results: {:?} {:?}", row.name, ours.0, theirs.0));
+        (row.work.done(*side, &mut buffers), buffers)
+    };
+    let results: Vec<_> = row.work.sides().iter().map(each).collect();
+    if results.iter().any(|result| *result != results[0]) {
+        let numbers: Vec<_> = results.iter().map(|result| &result.0).collect();
+        return Err(format!("{}: the programs gave different results: {numbers:?}", row.name));
     }
-    Ok(row.items(&ours.0))
+    Ok(row.items(&results[0].0))
+}
+
+/// The head of a table, by the number of programs.
+fn head(sides: usize) -> &'static str {
+    if sides == 2 {
+        "| row | per | ours | theirs | ours / theirs | cleared first |\n|---|---|---:|---:|---:|---|"
+    } else {
+        "| row | per | ours | image | theirs | ours / image | ours / theirs | cleared first |\n|---|---|---:|---:|---:|---:|---:|---|"
+    }
 }
 
 pub fn print(part: &str) -> Result<(), String> {
@@ -50,14 +61,16 @@ pub fn print(part: &str) -> Result<(), String> {
         let (items, item) = items(row)?;
         let neither = counted(number, "neither")?;
         let per = |side| counted(number, side).map(|total| total.saturating_sub(neither) as f64 / items as f64);
-        let (our, their) = (per("ours")?, per("theirs")?);
+        let sides = row.work.sides();
+        let counts = sides.iter().map(|side| per(side.name())).collect::<Result<Vec<f64>, String>>()?;
         if row.group != group {
             group = row.group;
             println!("\n{group}\n");
-            println!("| row | per | ours | theirs | ours / theirs | cleared first |");
-            println!("|---|---|---:|---:|---:|---|");
+            println!("{}", head(sides.len()));
         }
-        println!("| {} | {item} | {our:.1} | {their:.1} | {:.2} | {} |", row.name, our / their, row.cleared());
+        let each: Vec<String> = counts.iter().map(|count| format!("{count:.1}")).collect();
+        let ratios: Vec<String> = counts[1..].iter().map(|count| format!("{:.2}", counts[0] / count)).collect();
+        println!("| {} | {item} | {} | {} | {} |", row.name, each.join(" | "), ratios.join(" | "), row.cleared());
     }
     if seen {
         Ok(())

@@ -76,6 +76,10 @@ impl Script {
         self.bytes
     }
 
+    pub fn bytes(&self) -> &[u8] {
+        &self.bytes
+    }
+
     pub fn image(&self) -> Vec<u8> {
         let mut image = vec![0; runnelopal::IMAGE_BYTES];
         let words = compiler::compile(&self.bytes, &mut image).expect("the script is valid");
@@ -237,6 +241,15 @@ pub fn tests(script: &mut Script) {
         script.write((1, P_CNT + 6, 1));
         script.end();
     }
+}
+
+/// An if that is never taken, around this many writes.
+pub fn failed_test(script: &mut Script, records: usize) {
+    script.branch(1, P_CNT + 6, 1);
+    for _ in 0..records {
+        script.write((4, P_CNT, 0x17));
+    }
+    script.end();
 }
 
 /// As many events as a run may have, of every kind except resets.

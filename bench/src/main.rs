@@ -15,7 +15,8 @@ use work::Side;
 const USAGE: &str = "\
 usage: bench [PART]              time both programs and print the table
        bench --callgrind [PART]  count instructions instead; needs valgrind
-       bench --once ROW SIDE     run one small row; SIDE is ours, theirs or neither
+       bench --failed-tests      check that a failed test costs the interpreter the same over 1,000 records as over one
+       bench --once ROW SIDE     run one small row; SIDE is ours, theirs, image (beside an interpreter) or neither
 Only the rows whose names contain PART are measured.
 ";
 
@@ -25,6 +26,7 @@ fn once(number: &str, side: &str) -> Option<()> {
     let mut buffers = row.work.buffers();
     let side = match side {
         "ours" => Some(Side::Ours),
+        "image" => Some(Side::Image),
         "theirs" => Some(Side::Theirs),
         "neither" => None,
         _ => return None,
@@ -42,6 +44,7 @@ fn main() -> ExitCode {
         [] => table::print(""),
         ["--callgrind"] => callgrind::print(""),
         ["--callgrind", part] => callgrind::print(part),
+        ["--failed-tests"] => table::check_failed_tests(),
         ["--once", number, side] => once(number, side).ok_or_else(|| USAGE.to_string()),
         [part] if !part.starts_with('-') => table::print(part),
         _ => Err(USAGE.to_string()),

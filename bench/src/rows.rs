@@ -22,7 +22,7 @@ impl Row {
     pub fn items(&self, done: &Done) -> (u64, &'static str) {
         match &self.work {
             Work::Compile { script, times } => ((script.len() / 12 * times) as u64, "record"),
-            Work::Run { times, .. } => (done.numbers[1] * *times as u64, "step"),
+            Work::Run { times, .. } | Work::Interpret { times, .. } => (done.numbers[1] * *times as u64, "step"),
             Work::Accesses { list, times, .. } => ((list.len() * times) as u64, "access"),
             Work::Events { list, times, .. } => ((list.len() * times) as u64, "event"),
         }
@@ -32,15 +32,19 @@ impl Row {
     pub fn cleared(&self) -> &'static str {
         match self.work {
             Work::Compile { .. } => "image cleared",
-            Work::Run { log: 0, .. } => "no log",
-            Work::Run { .. } => "log cleared",
+            Work::Run { log: 0, .. } | Work::Interpret { log: 0, .. } => "no log",
+            Work::Run { .. } | Work::Interpret { .. } => "log cleared",
             Work::Accesses { .. } | Work::Events { .. } => "no buffer",
         }
     }
 }
 
+/// In the names of the two rows of a test that fails.
+pub const FAILED_TEST: &str = "failed test";
+
 const COMPILE: &str = "Compile, 1,023 records";
 const RUN: &str = "Runs";
+const INTERPRET: &str = "The interpreter, beside our run of the compiled image and the model's interpreter";
 const SINGLE: &str = "Single calls: ours load and save the state's bytes at each call, theirs keep a struct";
 const SINGLE_BYTES: &str = "Single calls: both load and save the state's bytes at each call";
 const COMPILE_GROWTH: &str = "How a compile grows";
@@ -59,6 +63,53 @@ fn run(name: &str, script: &Script, log: usize) -> Row {
     Row { group: RUN, name: name.to_string(), work }
 }
 
+/// The same script as the row of a run, interpreted.
+fn interpret(row: &Row, script: &Script) -> Row {
+    let Work::Run { image, events, budget, log, times } = &row.work else {
+        unreachable!("the row is a run");
+    };
+    let (image, events) = (image.clone(), events.clone());
+    let work = Work::Interpret { script: script.bytes().to_vec(), image, events, budget: *budget, log: *log, times: *times };
+    Row { group: INTERPRET, name: format!("interpreter: {}", row.name), work }
+}
+
+/// The runs, each with its script.
+fn runs(size: Size) -> Vec<(Row, Script)> {
+    let small = |whole: u32, part: u32| if size == Size::Full { whole } else { part };
+    let scripts = [
+        ("loop in a loop, empty body", inputs::looped(&[small(100, 1), 50_000], |_| ()), 0),
+        ("8 loops, empty body", inputs::looped(&[small(7, 3); 8], |_| ()), 0),
+        ("loop in a loop, one delay", inputs::looped(&[small(40, 1), 50_000], inputs::one_delay), 0),
+        ("loop in a loop, one write to P_CNT", inputs::looped(&[small(40, 1), 50_000], inputs::one_write), 0),
+        ("loop in a loop, one unclaimed write", inputs::looped(&[small(40, 1), 50_000], inputs::one_unclaimed), 0),
+        ("register set-ups", inputs::looped(&[small(40_000, 1_000)], inputs::set_up), 0),
+        ("reads to the end of a log", inputs::reads(), small(1_000_000, 50_000) as usize),
+        ("tests and jumps", inputs::looped(&[small(40, 1), 5_000], inputs::tests), 0),
+    ];
+    let mut runs: Vec<_> = scripts.into_iter().map(|(name, script, log)| (run(name, &script, log), script)).collect();
+    let writes = inputs::looped(&[4_096], inputs::one_write);
+    let mut events = run("4,096 writes, each after an event", &writes, 0);
+    if let Work::Run { events, times, .. } = &mut events.work {
+        *events = inputs::many_events();
+        *times = small(300, 4) as usize;
+    }
+    runs.push((events, writes));
+    runs
+}
+
+/// A test that fails over 1,000 records and one that fails over one record, in a loop. They should cost the same.
+fn failed_tests(size: Size) -> Vec<Row> {
+    let turns = if size == Size::Full { [40, 50_000] } else { [1, 50_000] };
+    [1_000, 1]
+        .into_iter()
+        .map(|records| {
+            let script = inputs::looped(&turns, |script| inputs::failed_test(script, records));
+            let plural = if records == 1 { "" } else { "s" };
+            interpret(&run(&format!("{FAILED_TEST} over {records} record{plural}"), &script, 0), &script)
+        })
+        .collect()
+}
+
 pub fn rows(size: Size) -> Vec<Row> {
     let full = size == Size::Full;
     let small = |whole: u32, part: u32| if full { whole } else { part };
@@ -69,24 +120,11 @@ pub fn rows(size: Size) -> Vec<Row> {
         compile(COMPILE, "ifs with elses side by side", inputs::many_ifs(MOST_RECORDS), size),
     ];
 
-    let outer = small(100, 1);
-    let depth8 = [small(7, 3); 8];
-    rows.extend([
-        run("loop in a loop, empty body", &inputs::looped(&[outer, 50_000], |_| ()), 0),
-        run("8 loops, empty body", &inputs::looped(&depth8, |_| ()), 0),
-        run("loop in a loop, one delay", &inputs::looped(&[small(40, 1), 50_000], inputs::one_delay), 0),
-        run("loop in a loop, one write to P_CNT", &inputs::looped(&[small(40, 1), 50_000], inputs::one_write), 0),
-        run("loop in a loop, one unclaimed write", &inputs::looped(&[small(40, 1), 50_000], inputs::one_unclaimed), 0),
-        run("register set-ups", &inputs::looped(&[small(40_000, 1_000)], inputs::set_up), 0),
-        run("reads to the end of a log", &inputs::reads(), small(1_000_000, 50_000) as usize),
-        run("tests and jumps", &inputs::looped(&[small(40, 1), 5_000], inputs::tests), 0),
-    ]);
-    let mut events = run("4,096 writes, each after an event", &inputs::looped(&[4_096], inputs::one_write), 0);
-    if let Work::Run { events, times, .. } = &mut events.work {
-        *events = inputs::many_events();
-        *times = small(300, 4) as usize;
-    }
-    rows.push(events);
+    let runs = runs(size);
+    let interpreted: Vec<Row> = runs.iter().map(|(row, script)| interpret(row, script)).collect();
+    rows.extend(runs.into_iter().map(|(row, _)| row));
+    rows.extend(interpreted);
+    rows.extend(failed_tests(size));
 
     let single_times = small(20_000, 500) as usize;
     let access = |group, name: &str, list: Vec<_>, held| Row {

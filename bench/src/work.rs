@@ -4,13 +4,27 @@ use std::hint::black_box;
 
 use reference::compiler;
 use reference::device::Device;
+use reference::own_run;
 use reference::sequencer::{self, Lent, Sequencer};
 use reference::state;
 
 #[derive(Clone, Copy, Debug, PartialEq, Eq)]
 pub enum Side {
     Ours,
+    /// Our run of the compiled script, beside our interpreter.
+    Image,
     Theirs,
+}
+
+impl Side {
+    /// The name on the command line of the process that callgrind counts.
+    pub fn name(self) -> &'static str {
+        match self {
+            Side::Ours => "ours",
+            Side::Image => "image",
+            Side::Theirs => "theirs",
+        }
+    }
 }
 
 /// A single access. A read has no value.
@@ -33,6 +47,8 @@ pub enum Work {
     Compile { script: Vec<u8>, times: usize },
     /// Runs the image this many times, each time on a fresh device.
     Run { image: Vec<u8>, events: Vec<u32>, budget: u32, log: usize, times: usize },
+    /// Interprets the script this many times, each time on a fresh device. The third side runs the image.
+    Interpret { script: Vec<u8>, image: Vec<u8>, events: Vec<u32>, budget: u32, log: usize, times: usize },
     /// Goes through the list this many times on one device, which starts from the given state.
     Accesses { start: state::StateBytes, list: Vec<Access>, times: usize, held: Held },
     Events { start: state::StateBytes, list: Vec<u32>, times: usize, held: Held },
@@ -66,15 +82,33 @@ impl Work {
     pub fn buffers(&self) -> Buffers {
         let (image, log) = match self {
             Work::Compile { .. } => (runnelopal::IMAGE_BYTES, 0),
-            Work::Run { log, .. } => (0, *log),
+            Work::Run { log, .. } | Work::Interpret { log, .. } => (0, *log),
             Work::Accesses { .. } | Work::Events { .. } => (0, 0),
         };
         Buffers { image: vec![0xEE; image], log: vec![0xEEEE_EEEE_EEEE_EEEE; log] }
     }
 
+    /// The programs that do the work.
+    pub fn sides(&self) -> &'static [Side] {
+        match self {
+            Work::Interpret { .. } => &[Side::Ours, Side::Image, Side::Theirs],
+            _ => &[Side::Ours, Side::Theirs],
+        }
+    }
+
     pub fn done(&self, side: Side, buffers: &mut Buffers) -> Done {
         match (self, side) {
             (Work::Compile { script, times }, _) => compiled(side, script, *times, &mut buffers.image),
+            (Work::Interpret { script, events, budget, times, .. }, Side::Ours) => {
+                our_interpretation(script, events, *budget, &mut buffers.log, *times)
+            }
+            (Work::Interpret { image, events, budget, times, .. }, Side::Image) => {
+                without_place(our_run(image, events, *budget, &mut buffers.log, *times))
+            }
+            (Work::Interpret { script, events, budget, times, .. }, Side::Theirs) => {
+                their_interpretation(script, events, *budget, &mut buffers.log, *times)
+            }
+            (_, Side::Image) => unreachable!("only an interpreter has an image run beside it"),
             (Work::Run { image, events, budget, times, .. }, Side::Ours) => {
                 our_run(image, events, *budget, &mut buffers.log, *times)
             }
@@ -94,7 +128,7 @@ fn compiled(side: Side, script: &[u8], times: usize, image: &mut [u8]) -> Done {
     for _ in 0..times {
         let script = black_box(script);
         words = match side {
-            Side::Ours => runnelopal::compile(script, image).expect("the script is valid"),
+            Side::Ours | Side::Image => runnelopal::compile(script, image).expect("the script is valid"),
             Side::Theirs => compiler::compile(script, image).expect("the script is valid"),
         };
         black_box(&mut *image);
@@ -134,6 +168,49 @@ fn their_run(image: &[u8], events: &[u32], budget: u32, log: &mut [u64], times: 
             ended.events_taken as u64,
             ended.values_logged as u64,
             u64::from(place),
+        ],
+        sum: 0,
+        state: Some(state),
+    }
+}
+
+/// An interpreter has no sequencer, so no place.
+fn without_place(run: Done) -> Done {
+    let [ending, steps, taken, logged, _] = run.numbers;
+    Done { numbers: [ending, steps, taken, logged, 0], ..run }
+}
+
+fn our_interpretation(script: &[u8], events: &[u32], budget: u32, log: &mut [u64], times: usize) -> Done {
+    let mut done = None;
+    for _ in 0..times {
+        done = Some(runnelopal::interpret(black_box(script), events, budget, log).expect("the script is valid"));
+        black_box(&mut *log);
+    }
+    let run = done.expect("at least one run");
+    Done {
+        numbers: [u64::from(run.ending), run.steps, run.taken as u64, run.logged as u64, 0],
+        sum: 0,
+        state: Some(run.device.state),
+    }
+}
+
+fn their_interpretation(script: &[u8], events: &[u32], budget: u32, log: &mut [u64], times: usize) -> Done {
+    let mut done = None;
+    for _ in 0..times {
+        let mut device = Device::fresh();
+        let lent = own_run::Lent { script: black_box(script), events, budget, log: &mut *log };
+        let ended = own_run::interpret(lent, &mut device, &mut ()).expect("the script is valid");
+        done = Some((ended, state::encode(&device)));
+        black_box(&mut *log);
+    }
+    let (ended, state) = done.expect("at least one run");
+    Done {
+        numbers: [
+            u64::from(ended.ending.number()),
+            ended.steps,
+            ended.events_taken as u64,
+            ended.values_logged as u64,
+            0,
         ],
         sum: 0,
         state: Some(state),

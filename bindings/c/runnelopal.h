@@ -1,4 +1,4 @@
-/* Runnelopal from C: compiles board setup scripts, runs them on a model of the chip, and makes single register accesses.
+/* Runnelopal from C: compiles or interprets board setup scripts, runs them on a model of the chip, and makes single register accesses.
  *
  * Link with target/staticlib/librunnelopal.a, which `rt staticlib runnelopal` builds. docs/CHIP.md describes the chip, its registers,
  * scripts, images and events. bindings/c/example.c is a complete program.
@@ -7,10 +7,10 @@
  * writes must not overlap any other buffer of the same call. There are no other preconditions: every byte and number is a valid
  * argument, and a call that cannot do what it is asked to do returns a refusal.
  *
- * The functions return 0, the number of a refusal, or, for runnelopal_run, how the run ended. The two functions about an entry of the log
- * return a number of the entry. Further results are stored in the array `answer`, in the order that is listed at each function. If `answer`
- * has fewer elements, the results that do not fit are dropped; if it has more, the rest is not changed. After a refusal answer[0] is its
- * place, and all other results are 0.
+ * The functions return 0, the number of a refusal, or, for runnelopal_run and runnelopal_interpret, how the run ended. The two functions
+ * about an entry of the log return a number of the entry. Further results are stored in the array `answer`, in the order that is listed at
+ * each function. If `answer` has fewer elements, the results that do not fit are dropped; if it has more, the rest is not changed. After a
+ * refusal answer[0] is its place, and all other results are 0.
  */
 #ifndef RUNNELOPAL_H
 #define RUNNELOPAL_H
@@ -86,6 +86,16 @@ uint32_t runnelopal_compile(const uint8_t *script, size_t script_bytes, uint8_t 
 uint32_t runnelopal_run(const uint8_t *image, size_t image_bytes, const uint32_t *events, size_t event_count,
                         uint32_t budget, uint64_t *log, size_t log_count, uint8_t *state, size_t state_bytes,
                         uint64_t *answer, size_t answer_count);
+
+/* Interprets a script on a fresh device: walks through its nested records, without an image. `events`, `budget`, `log` and `state` are as for
+ * runnelopal_run. The result is that of compiling the script and running the image: the same ending, steps, events, values logged, log and
+ * device, at every budget and every length of `log`.
+ * Returns how the run ended (0, 19 or 24), or a refusal: 1 to 8 for the script, then 12; 11 does not occur, because the device is fresh. A
+ * refusal leaves `log` and `state` unchanged.
+ * answer: place of the refusal, steps (the words that the image would execute), events applied, values logged */
+uint32_t runnelopal_interpret(const uint8_t *script, size_t script_bytes, const uint32_t *events, size_t event_count,
+                              uint32_t budget, uint64_t *log, size_t log_count, uint8_t *state, size_t state_bytes,
+                              uint64_t *answer, size_t answer_count);
 
 /* The value and the owner of an entry of the log: its low 32 bits, and the bits above them. Every number is a valid argument. */
 uint32_t runnelopal_entry_value(uint64_t entry);

@@ -4,7 +4,7 @@ use crate::acpi::{self, Acpi, PIN_COUNT};
 use crate::configuration::{self, Configuration, KEY_BYTES};
 use crate::monitor::Monitor;
 
-#[derive(Clone, Copy, Debug, PartialEq, Eq)]
+#[derive(Clone, Copy, Debug, PartialEq, Eq, Hash)]
 pub enum Width {
     One,
     Two,
@@ -56,7 +56,7 @@ impl Denial {
 }
 
 /// The block that owns a port, with the number that answers and log entries give it.
-#[derive(Clone, Copy, Debug, PartialEq, Eq, PartialOrd, Ord)]
+#[derive(Clone, Copy, Debug, PartialEq, Eq, PartialOrd, Ord, Hash)]
 pub enum Owner {
     /// No block claims the port.
     Nobody = 0,
@@ -74,7 +74,7 @@ impl Owner {
 
 /// The whole answer to an access. The owner is named at every status, so that status 1 of a block
 /// that does not take the access differs from status 1 of a port that no block claims.
-#[derive(Clone, Copy, Debug, PartialEq, Eq)]
+#[derive(Clone, Copy, Debug, PartialEq, Eq, Hash)]
 pub struct Answer {
     pub status: u32,
     pub value: u32,
@@ -132,7 +132,7 @@ impl Refusal {
     }
 }
 
-#[derive(Clone, Copy, Debug, PartialEq, Eq)]
+#[derive(Clone, Copy, Debug, PartialEq, Eq, Hash)]
 pub struct Outputs {
     pub sci: bool,
     pub smi: bool,
@@ -140,7 +140,7 @@ pub struct Outputs {
 }
 
 /// What a run does at a port. Only a read is logged.
-#[derive(Clone, Copy, Debug, PartialEq, Eq)]
+#[derive(Clone, Copy, Debug, PartialEq, Eq, Hash)]
 pub enum Action {
     /// With the value written.
     Write(u32),
@@ -149,7 +149,7 @@ pub enum Action {
 }
 
 /// One access of a run with its whole answer: status, value and owner, and the outputs after it.
-#[derive(Clone, Copy, Debug, PartialEq, Eq)]
+#[derive(Clone, Copy, Debug, PartialEq, Eq, Hash)]
 pub struct Access {
     pub action: Action,
     pub width: Width,

@@ -166,7 +166,7 @@ pub const ANYTHING: Source = Source {
     looks: true,
 };
 
-const SCENARIOS: [(u32, Scenario); 27] = [
+const SCENARIOS: [(u32, Scenario); 28] = [
     (6, Generator::place_blocks),
     (10, Generator::poke_configuration),
     (5, Generator::drive_key_control),
@@ -192,6 +192,7 @@ const SCENARIOS: [(u32, Scenario); 27] = [
     (48, Generator::malformed),
     (24, Generator::compile_script),
     (4, Generator::run_script),
+    (4, Generator::interpret_script),
     (4, Generator::run_image),
     (3, Generator::set_sequencer),
 ];
@@ -1412,6 +1413,14 @@ impl Generator {
                     b"T 1 800 - -",
                     b"T 1 1 0000 -",
                     b"t 1 1 - -",
+                    b"N",
+                    b"N 1 1 - -",
+                    b"N 1 1 -",
+                    b"N 1 1 - - -",
+                    b"N 1 801 - -",
+                    b"N 1 800 - -",
+                    b"N 1 1 0000 -",
+                    b"n 1 1 - -",
                 ];
                 line = self.random.pick(strange).to_vec();
             }
@@ -1433,7 +1442,7 @@ impl Generator {
                 .random
                 .pick(&[0x00, 0x0D, 0x09, 0x0B, 0x0C, 0x1A, 0x1B, 0x7F]),
             1 => self.random.byte() | 0x80,
-            2 => self.random.pick(b"RWEOSLFCQXT- 0123456789ABCDEFabcdef"),
+            2 => self.random.pick(b"RWEOSLFCQXTN- 0123456789ABCDEFabcdef"),
             _ => self.random.byte(),
         };
         if byte == b'\n' {

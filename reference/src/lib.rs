@@ -3,23 +3,28 @@
 #![forbid(unsafe_code)]
 
 pub mod acpi;
+pub mod blocks;
 pub mod compiler;
 pub mod configuration;
 pub mod device;
 pub mod generate;
 pub mod images;
 pub mod monitor;
+pub mod nested;
 pub mod own_run;
 pub mod programs;
 pub mod random;
 pub mod runs;
 pub mod scripts;
 pub mod sequencer;
+pub mod shapes;
 pub mod state;
 pub mod stream;
 
 #[cfg(test)]
 mod compiler_tests;
+#[cfg(test)]
+mod nested_tests;
 #[cfg(test)]
 mod owner_tests;
 #[cfg(test)]

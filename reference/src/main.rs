@@ -8,6 +8,7 @@ use std::process::ExitCode;
 
 use reference::generate::{self, Source, ANYTHING};
 use reference::images::IMAGES;
+use reference::nested::{self, NESTED};
 use reference::runs::RUNS;
 use reference::{scripts, stream};
 
@@ -17,6 +18,8 @@ usage: reference answer                read commands on standard input, print th
        reference scripts SEED COUNT    print COUNT random compile commands
        reference runs SEED COUNT       print COUNT random commands, most of them run scripts
        reference images SEED COUNT     print COUNT random commands, most of them run images
+       reference nested SEED COUNT     print COUNT random commands, most of them interpret scripts
+       reference script SEED           write one random script as bytes
 ";
 
 const BUFFER_BYTES: usize = 1 << 16;
@@ -33,21 +36,28 @@ enum Task {
         seed: u64,
         count: u64,
     },
+    /// Writes the bytes of one script.
+    Script {
+        seed: u64,
+    },
 }
 
 fn task(arguments: &[String]) -> Option<Task> {
     let (name, numbers) = arguments.split_first()?;
-    if name == "answer" && numbers.is_empty() {
-        return Some(Task::Answer);
-    }
-    let [seed, count] = numbers else {
-        return None;
+    let (seed, count) = match (name.as_str(), numbers) {
+        ("answer", []) => return Some(Task::Answer),
+        ("script", [seed]) => {
+            let seed = seed.parse().ok()?;
+            return Some(Task::Script { seed });
+        }
+        (_, [seed, count]) => (seed.parse().ok()?, count.parse().ok()?),
+        _ => return None,
     };
-    let (seed, count) = (seed.parse().ok()?, count.parse().ok()?);
     let source = match name.as_str() {
         "generate" => &ANYTHING,
         "runs" => &RUNS,
         "images" => &IMAGES,
+        "nested" => &NESTED,
         "scripts" => return Some(Task::Scripts { seed, count }),
         _ => return None,
     };
@@ -71,6 +81,7 @@ fn run(task: Task) -> io::Result<()> {
             count,
         } => generate::write_commands(source, seed, count, &mut output)?,
         Task::Scripts { seed, count } => scripts::write_scripts(seed, count, &mut output)?,
+        Task::Script { seed } => output.write_all(&nested::single_script(seed))?,
     }
     output.flush()
 }

@@ -1,109 +1,95 @@
-//! An interpreter of scripts: it runs the nested records block by block. It has no words, no budget
-//! and no log size, and shares no code with the compiler or the sequencer.
+//! The interpreter of scripts: it runs the nested records block by block, under a budget and with a
+//! log of limited room. It has no image, no words and no sequencer. With the compiler and the
+//! sequencer it shares only names and limits, and how a caller observes accesses.
 
-use crate::compiler::{Record, DELAY, ELSE, END, IF, READ, RECORD_BYTES, REPEAT, WRITE};
+use crate::blocks::{nest, Node};
+use crate::compiler;
 use crate::device::{Access, Action, Answer, Device, Event, Width};
+use crate::sequencer::{Ended, Ending, Observer, EVENT_LIMIT};
 
-/// A record with the records inside it.
-#[derive(Clone, Debug, PartialEq, Eq)]
-enum Node {
-    Write {
-        width: Width,
-        port: u16,
-        value: u32,
-    },
-    Read {
-        width: Width,
-        port: u16,
-    },
-    Delay(u16),
-    Repeat {
-        times: u32,
-        body: Vec<Node>,
-    },
-    If {
-        width: Width,
-        port: u16,
-        mask: u32,
-        then_part: Vec<Node>,
-        else_part: Option<Vec<Node>>,
-    },
+/// What the interpreter gets from its caller besides the device.
+pub struct Lent<'a> {
+    pub script: &'a [u8],
+    pub events: &'a [u32],
+    pub budget: u32,
+    /// Room for one entry per read.
+    pub log: &'a mut [u64],
 }
 
-/// The record that ends a body.
+/// Why a script is not interpreted. The variants are in the order in which they are looked for.
 #[derive(Clone, Copy, Debug, PartialEq, Eq)]
-enum Behind {
-    Else,
-    End,
-    Nothing,
+pub enum Refusal {
+    /// 1 to 8, as the compiler gives them.
+    Script(compiler::Refusal),
+    /// 11: device state out of range.
+    StateOutOfRange,
+    /// 12: not an event, with the place of the first one; always 4,096 if there are more than 4,096
+    /// events.
+    BadEvent(usize),
 }
 
-/// The nested form of a script that the compiler accepts.
-fn nest(script: &[u8]) -> Vec<Node> {
-    let (records, rest) = script.as_chunks::<RECORD_BYTES>();
-    assert!(
-        rest.is_empty(),
-        "the length of the script is a multiple of 12"
-    );
-    let mut records = records.iter().map(Record::decode);
-    let (body, behind) = nest_body(&mut records);
-    assert_eq!(behind, Behind::Nothing, "every else and end has its block");
-    body
-}
-
-fn nest_body(records: &mut impl Iterator<Item = Record>) -> (Vec<Node>, Behind) {
-    let mut body = Vec::new();
-    while let Some(record) = records.next() {
-        let Record { port, value, .. } = record;
-        let node = match record.kind {
-            WRITE => Node::Write {
-                width: width_of(&record),
-                port,
-                value,
-            },
-            READ => Node::Read {
-                width: width_of(&record),
-                port,
-            },
-            DELAY => Node::Delay(u16::try_from(value).expect("a delay is at most 65,535")),
-            REPEAT => {
-                let (body, behind) = nest_body(records);
-                assert_eq!(behind, Behind::End, "a repeat is closed by an end");
-                Node::Repeat { times: value, body }
-            }
-            IF => {
-                let (then_part, behind) = nest_body(records);
-                let else_part = match behind {
-                    Behind::Else => {
-                        let (else_part, behind) = nest_body(records);
-                        assert_eq!(behind, Behind::End, "an else is closed by an end");
-                        Some(else_part)
-                    }
-                    Behind::End => None,
-                    Behind::Nothing => panic!("an if is closed"),
-                };
-                Node::If {
-                    width: width_of(&record),
-                    port,
-                    mask: value,
-                    then_part,
-                    else_part,
-                }
-            }
-            ELSE => return (body, Behind::Else),
-            END => return (body, Behind::End),
-            other => panic!("there is no script kind {other}"),
-        };
-        body.push(node);
+impl Refusal {
+    pub fn number(self) -> u32 {
+        match self {
+            Refusal::Script(refusal) => refusal.fault.number(),
+            Refusal::StateOutOfRange => 11,
+            Refusal::BadEvent(_) => 12,
+        }
     }
-    (body, Behind::Nothing)
+
+    pub fn place(self) -> usize {
+        match self {
+            Refusal::Script(refusal) => refusal.place,
+            Refusal::StateOutOfRange => 0,
+            Refusal::BadEvent(place) => place,
+        }
+    }
 }
 
-fn width_of(record: &Record) -> Width {
-    Width::of(u32::from(record.width)).expect("a width is 1, 2 or 4")
+/// Interprets a script on the device. It ends with 0, 19 or 24. A refusal changes nothing. The log
+/// is filled from its start; the rest of it is not changed.
+pub fn interpret<O: Observer>(
+    lent: Lent<'_>,
+    device: &mut Device,
+    observer: &mut O,
+) -> Result<Ended, Refusal> {
+    let script = nest(lent.script).map_err(Refusal::Script)?;
+    judge(device, lent.events)?;
+    let mut walk = Walk {
+        device,
+        events_left: lent.events,
+        entries: Vec::new(),
+        room: lent.log.len(),
+        steps: 0,
+        budget: u64::from(lent.budget),
+        observer,
+    };
+    let ending = walk.script(&script);
+    lent.log[..walk.entries.len()].copy_from_slice(&walk.entries);
+    Ok(Ended {
+        ending,
+        steps: walk.steps,
+        events_taken: lent.events.len() - walk.events_left.len(),
+        values_logged: walk.entries.len(),
+    })
 }
 
-/// The state of the interpreter.
+/// Refusals 11 and 12.
+fn judge(device: &Device, events: &[u32]) -> Result<(), Refusal> {
+    if !device.in_range() {
+        return Err(Refusal::StateOutOfRange);
+    }
+    if events.len() > EVENT_LIMIT {
+        return Err(Refusal::BadEvent(EVENT_LIMIT));
+    }
+    let is_bad = |number: &u32| Event::decode(*number).is_none();
+    match events.iter().position(is_bad) {
+        Some(place) => Err(Refusal::BadEvent(place)),
+        None => Ok(()),
+    }
+}
+
+/// What the script's own run holds at its end. It has no budget and no log size.
 #[derive(Clone, Debug, PartialEq, Eq)]
 pub struct OwnRun<'a> {
     pub device: Device,
@@ -114,63 +100,109 @@ pub struct OwnRun<'a> {
     pub steps: u64,
 }
 
-/// Interprets a script that the compiler accepts, on a device in range, with valid events. Eight
-/// nested repeats of 65,535 turns would never end, so it returns nothing if the run would take more
-/// steps than the limit.
+/// The own run of a script that is accepted, on a device in range, with valid events. Eight nested
+/// repeats of 65,535 turns would never end, so it returns nothing if the run would take more steps
+/// than the limit.
 pub fn own_run<'a>(
     script: &[u8],
     device: &Device,
     events: &'a [u32],
     step_limit: u64,
 ) -> Option<OwnRun<'a>> {
+    let script = nest(script).expect("the script is accepted");
+    let mut device = device.clone();
+    let mut accesses = Vec::new();
     let mut walk = Walk {
-        held: OwnRun {
-            device: device.clone(),
-            events_left: events,
-            entries: Vec::new(),
-            accesses: Vec::new(),
-            steps: 0,
-        },
-        step_limit,
+        device: &mut device,
+        events_left: events,
+        entries: Vec::new(),
+        room: usize::MAX,
+        steps: 0,
+        budget: step_limit,
+        observer: &mut accesses,
     };
-    walk.body(&nest(script))?;
-    // The step at the end of the script.
-    walk.step()?;
-    Some(walk.held)
+    let halted = walk.script(&script) == Ending::Halted;
+    let Walk {
+        events_left,
+        entries,
+        steps,
+        ..
+    } = walk;
+    halted.then_some(OwnRun {
+        device,
+        events_left,
+        entries,
+        accesses,
+        steps,
+    })
 }
 
-struct Walk<'a> {
-    held: OwnRun<'a>,
-    step_limit: u64,
+struct Walk<'a, 'b, O> {
+    device: &'b mut Device,
+    events_left: &'a [u32],
+    entries: Vec<u64>,
+    /// The greatest number of entries.
+    room: usize,
+    steps: u64,
+    budget: u64,
+    observer: &'b mut O,
 }
 
-/// Each part returns nothing if the limit is exceeded.
-impl Walk<'_> {
-    fn step(&mut self) -> Option<()> {
-        self.held.steps += 1;
-        (self.held.steps <= self.step_limit).then_some(())
+/// Each part returns an error if the run ends there, before the script does.
+impl<O: Observer> Walk<'_, '_, O> {
+    fn script(&mut self, script: &[Node]) -> Ending {
+        // The step at the end of the script is that of the halt.
+        match self.body(script).and_then(|()| self.step()) {
+            Ok(()) => Ending::Halted,
+            Err(ending) => ending,
+        }
     }
 
-    fn body(&mut self, nodes: &[Node]) -> Option<()> {
+    /// The budget is looked at before anything that counts a step.
+    fn look_at_budget(&self) -> Result<(), Ending> {
+        match self.steps == self.budget {
+            true => Err(Ending::BudgetSpent),
+            false => Ok(()),
+        }
+    }
+
+    /// Only a read needs room. One that finds none takes no event and counts no step.
+    fn look_at_log(&self, node: &Node) -> Result<(), Ending> {
+        match node {
+            Node::Read { .. } if self.entries.len() == self.room => Err(Ending::LogFull),
+            _ => Ok(()),
+        }
+    }
+
+    fn step(&mut self) -> Result<(), Ending> {
+        self.look_at_budget()?;
+        self.steps += 1;
+        Ok(())
+    }
+
+    fn body(&mut self, nodes: &[Node]) -> Result<(), Ending> {
         nodes.iter().try_for_each(|node| self.node(node))
     }
 
-    fn node(&mut self, node: &Node) -> Option<()> {
-        self.step()?;
+    fn node(&mut self, node: &Node) -> Result<(), Ending> {
+        self.look_at_budget()?;
+        self.look_at_log(node)?;
+        self.steps += 1;
         match node {
             Node::Write { width, port, value } => {
                 self.next_event();
-                let answer = self.held.device.answer_write(*width, *port, *value);
+                let answer = self.device.answer_write(*width, *port, *value);
                 self.list(Action::Write(*value), *width, *port, answer);
             }
             Node::Read { width, port } => {
                 let answer = self.read(Action::Read, *width, *port);
-                self.held.entries.push(answer.log_entry());
+                self.entries.push(answer.log_entry());
             }
-            Node::Delay(ticks) => self.held.device.happen(Event::Ticks(*ticks)),
+            Node::Delay(ticks) => self.device.happen(Event::Ticks(*ticks)),
             Node::Repeat { times, body } => {
                 for _ in 0..*times {
                     self.body(body)?;
+                    // The end of each turn.
                     self.step()?;
                 }
             }
@@ -187,6 +219,7 @@ impl Walk<'_> {
                     (true, None) => self.body(then_part)?,
                     (true, Some(_)) => {
                         self.body(then_part)?;
+                        // From the else to its end. The end itself counts no step.
                         self.step()?;
                     }
                     (false, Some(else_part)) => self.body(else_part)?,
@@ -194,32 +227,33 @@ impl Walk<'_> {
                 }
             }
         }
-        Some(())
+        Ok(())
     }
 
     /// A read or a test. Its value and its owner are used at any status.
     fn read(&mut self, action: Action, width: Width, port: u16) -> Answer {
         self.next_event();
-        let answer = self.held.device.answer_read(width, port);
+        let answer = self.device.answer_read(width, port);
         self.list(action, width, port, answer);
         answer
     }
 
     fn next_event(&mut self) {
-        if let Some((number, left)) = self.held.events_left.split_first() {
+        if let Some((number, left)) = self.events_left.split_first() {
             let event = Event::decode(*number).expect("the events are valid");
-            self.held.device.happen(event);
-            self.held.events_left = left;
+            self.device.happen(event);
+            self.events_left = left;
         }
     }
 
     fn list(&mut self, action: Action, width: Width, port: u16, answer: Answer) {
-        self.held.accesses.push(Access {
+        let device = &*self.device;
+        self.observer.access(|| Access {
             action,
             width,
             port,
             answer,
-            outputs: self.held.device.outputs(),
+            outputs: device.outputs(),
         });
     }
 }

@@ -8,6 +8,7 @@ use crate::compiler::{IF, READ};
 use crate::device::{Access, Action, Answer, Device, Owner};
 use crate::generate::{Source, ANYTHING};
 use crate::images::IMAGES;
+use crate::nested::NESTED;
 use crate::run_tests::{
     answers_to, commands, compiled, end, entry, lines, read, read_timer, record, run_from,
     run_script_on, write, LENT, NO_TICK,
@@ -509,25 +510,31 @@ impl Tallies {
                     tally.add(&before, number(words[2]), answer);
                 }
                 Reply::Ran(ran) if ran.outcome.is_ok() => {
-                    let walk = Walk::new(&words, before, sequencer);
-                    walk.each_access(|before_event, device, access| {
-                        let port = u32::from(access.port);
-                        let tally = match access.action {
-                            Action::Read => &mut tallies.run_reads,
-                            Action::Write(_) => &mut tallies.run_writes,
-                            Action::Test => &mut tallies.run_tests,
-                        };
-                        tally.add(device, port, access.answer);
-                        let changed = access.answer.owner != owner_by_ranges(before_event, port);
-                        if changed && access.action == Action::Read {
-                            tallies.owner_changes += 1;
-                        }
-                    });
+                    tallies.add_run(Walk::new(&words, before, sequencer));
+                }
+                Reply::Interpreted(interpreted) if interpreted.outcome.is_ok() => {
+                    tallies.add_run(Walk::new(&words, before, sequencer));
                 }
                 _ => {}
             }
         }
         tallies
+    }
+
+    fn add_run(&mut self, walk: Walk) {
+        walk.each_access(|before_event, device, access| {
+            let port = u32::from(access.port);
+            let tally = match access.action {
+                Action::Read => &mut self.run_reads,
+                Action::Write(_) => &mut self.run_writes,
+                Action::Test => &mut self.run_tests,
+            };
+            tally.add(device, port, access.answer);
+            let changed = access.answer.owner != owner_by_ranges(before_event, port);
+            if changed && access.action == Action::Read {
+                self.owner_changes += 1;
+            }
+        });
     }
 }
 
@@ -545,7 +552,7 @@ struct Walk {
 const STEPS_WALKED: u32 = 300;
 
 impl Walk {
-    /// From the words of an `X` or a `T`.
+    /// From the words of an `X`, a `T` or an `N`.
     fn new(words: &[&[u8]], device: Device, sequencer: Sequencer) -> Self {
         let bytes = byte_string(words[4]);
         let (image, sequencer) = match words[0] {
@@ -612,7 +619,7 @@ fn number(word: &[u8]) -> u32 {
     u32::from_str_radix(digits, 16).expect("a number")
 }
 
-fn byte_string(word: &[u8]) -> Vec<u8> {
+pub(crate) fn byte_string(word: &[u8]) -> Vec<u8> {
     match word {
         b"-" => Vec::new(),
         digits => digits.chunks(2).map(|pair| number(pair) as u8).collect(),
@@ -626,7 +633,7 @@ fn random_commands_reach_every_owner_and_status() {
     let tallies = Tallies::of(&ANYTHING, 20_000);
     tallies.reads.check(&READ_PAIRS, 10);
     tallies.writes.check(&WRITE_PAIRS, 10);
-    for (source, count) in [(&RUNS, 2_000), (&IMAGES, 6_000)] {
+    for (source, count) in [(&RUNS, 2_000), (&IMAGES, 6_000), (&NESTED, 4_000)] {
         let tallies = Tallies::of(source, count);
         tallies.run_reads.check(&READ_PAIRS, 10);
         tallies.run_writes.check(&WRITE_PAIRS, 10);
@@ -639,33 +646,47 @@ fn random_commands_reach_every_owner_and_status() {
 /// In the printed answers an owner is 0 to 4, and every entry that the run did not fill is as lent.
 #[test]
 fn printed_owners() {
-    for (source, count) in [(&ANYTHING, 10_000), (&RUNS, 500), (&IMAGES, 500)] {
+    for (source, count) in [
+        (&ANYTHING, 10_000),
+        (&RUNS, 500),
+        (&IMAGES, 500),
+        (&NESTED, 500),
+    ] {
         let commands = commands(source, 2, count);
-        for answer in answers_to(&commands).lines() {
+        let answers = answers_to(&commands);
+        for (command, answer) in lines(&commands).zip(answers.lines()) {
             let words: Vec<&str> = answer.split(' ').collect();
+            // An interpreted script has no sequencer, which is ten numbers.
+            let without_log = match command.first() {
+                Some(b'N') => 6,
+                _ => 16,
+            };
             match words[..] {
                 ["DONE", status, value, outputs, owner] => {
                     assert_eq!((value.len(), outputs.len()), (8, 3));
                     assert!(["0", "1", "2", "3", "4"].contains(&owner), "{answer}");
                     assert!(owner != "0" || status == "1", "{answer}");
                 }
-                ["ENDED", _, _, _, logged, .., log] if words.len() == 17 => {
-                    let logged: usize = logged.parse().expect("a number");
-                    let entries = log.as_bytes().chunks(16);
-                    for (place, entry) in entries.enumerate() {
-                        let (upper, lower) = entry.split_at(8);
-                        if place < logged {
-                            assert!(number(upper) <= 4, "{answer}");
-                        } else {
-                            assert_eq!(number(upper), 0xA000_0000);
-                            assert_eq!(number(lower), place as u32);
-                        }
-                    }
+                ["ENDED", _, _, _, logged, .., log] if words.len() == without_log + 1 => {
+                    let logged = logged.parse().expect("a number");
+                    check_printed_log(log, logged);
                 }
                 // A log of length 0 is left out.
-                ["ENDED", ..] => assert_eq!(words.len(), 16, "{answer}"),
+                ["ENDED", ..] => assert_eq!(words.len(), without_log, "{answer}"),
                 _ => {}
             }
+        }
+    }
+}
+
+fn check_printed_log(log: &str, logged: usize) {
+    for (place, entry) in log.as_bytes().chunks(16).enumerate() {
+        let (upper, lower) = entry.split_at(8);
+        if place < logged {
+            assert!(number(upper) <= 4, "{log}");
+        } else {
+            assert_eq!(number(upper), 0xA000_0000);
+            assert_eq!(number(lower), place as u32);
         }
     }
 }

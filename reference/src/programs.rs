@@ -67,7 +67,7 @@ const TURNS: [u32; 10] = [0, 1, 1, 2, 2, 2, 3, 3, 4, 5];
 const TURNS_OF_A_LADDER: [u32; 8] = [0, 1, 1, 1, 1, 2, 2, 3];
 
 pub struct Programs<'a> {
-    random: &'a mut Random,
+    pub random: &'a mut Random,
     monitor_port: u16,
     key_port: u16,
     /// The timer after the ticks chosen so far, if nothing else changes it.
@@ -189,7 +189,7 @@ impl<'a> Programs<'a> {
     }
 
     /// One record, or a few that belong together.
-    fn statement(&mut self, script: &mut Vec<Record>) {
+    pub fn statement(&mut self, script: &mut Vec<Record>) {
         match self.random.below(17) {
             0 => script.push(write(1, INDEX_PORT, 0x55)),
             1 => {
@@ -478,7 +478,7 @@ fn write(width: u8, port: u16, value: u32) -> Record {
     }
 }
 
-fn read(width: u8, port: u16) -> Record {
+pub fn read(width: u8, port: u16) -> Record {
     Record {
         width,
         port,
@@ -486,7 +486,7 @@ fn read(width: u8, port: u16) -> Record {
     }
 }
 
-fn repeat(turns: u32) -> Record {
+pub fn repeat(turns: u32) -> Record {
     Record {
         value: turns,
         ..Record::of_script(REPEAT)

@@ -7,6 +7,7 @@ use crate::compiler::{
 use crate::device::{Access, Action, Answer, Device, Outputs, Owner, Width};
 use crate::generate::{self, Source};
 use crate::images::IMAGES;
+use crate::nested::NESTED;
 use crate::own_run::own_run;
 use crate::runs::RUNS;
 use crate::sequencer::{run, Ended, Ending, Lent, Refusal, Sequencer};
@@ -14,7 +15,7 @@ use crate::state;
 use crate::stream::{self, LINE_LIMIT};
 
 pub(crate) const NO_TICK: u32 = 0x0100_0000;
-const TICK: u32 = 0x0100_0001;
+pub(crate) const TICK: u32 = 0x0100_0001;
 const RTC_ALARM: u32 = 0x0300_0000;
 pub(crate) const LENT: u64 = 0xEEEE_EEEE_EEEE_EEEE;
 
@@ -37,7 +38,7 @@ fn word(kind: u8, width: u8, port: u16, target: u16, value: u32) -> Record {
     }
 }
 
-fn repeat(times: u32) -> Record {
+pub(crate) fn repeat(times: u32) -> Record {
     record(REPEAT, 0, 0, times)
 }
 
@@ -49,7 +50,7 @@ pub(crate) fn read(port: u16) -> Record {
     record(READ, 1, port, 0)
 }
 
-fn or_else() -> Record {
+pub(crate) fn or_else() -> Record {
     record(ELSE, 0, 0, 0)
 }
 
@@ -66,11 +67,11 @@ fn read_status() -> Record {
     record(READ, 2, 0xAC08, 0)
 }
 
-fn delay(ticks: u32) -> Record {
+pub(crate) fn delay(ticks: u32) -> Record {
     record(DELAY, 0, 0, ticks)
 }
 
-fn if_timer(mask: u32) -> Record {
+pub(crate) fn if_timer(mask: u32) -> Record {
     record(IF, 4, 0xAC18, mask)
 }
 
@@ -94,7 +95,7 @@ fn timer_word() -> Record {
     word(READ, 4, 0xAC18, 0, 0)
 }
 
-fn bytes(records: &[Record]) -> Vec<u8> {
+pub(crate) fn bytes(records: &[Record]) -> Vec<u8> {
     records.iter().flat_map(Record::encode).collect()
 }
 
@@ -119,7 +120,7 @@ fn sequencer(place: u32, counters: &[u32]) -> Sequencer {
 #[derive(Clone, Debug, PartialEq, Eq)]
 pub(crate) struct Left {
     pub outcome: Result<Ended, Refusal>,
-    device: Device,
+    pub device: Device,
     sequencer: Sequencer,
     pub log: Vec<u64>,
     pub accesses: Vec<Access>,
@@ -160,7 +161,12 @@ fn run_words(start: Sequencer, words: &[Record], budget: u32, size: usize) -> Le
     run_from(start, &bytes(words), &[], budget, size, &Device::fresh())
 }
 
-fn ended(ending: Ending, steps: u64, events_taken: usize, values_logged: usize) -> Ended {
+pub(crate) fn ended(
+    ending: Ending,
+    steps: u64,
+    events_taken: usize,
+    values_logged: usize,
+) -> Ended {
     Ended {
         ending,
         steps,
@@ -174,7 +180,7 @@ pub(crate) fn entry(owner: Owner, value: u32) -> u64 {
 }
 
 /// The log of reads at ports of the ACPI block.
-fn acpi_entries(values: &[u32]) -> Vec<u64> {
+pub(crate) fn acpi_entries(values: &[u32]) -> Vec<u64> {
     values
         .iter()
         .map(|value| entry(Owner::Acpi, *value))
@@ -694,15 +700,15 @@ pub(crate) fn answers_to(mut input: &[u8]) -> String {
     String::from_utf8(output).expect("answers are text")
 }
 
-fn answers(input: &str) -> String {
+pub(crate) fn answers(input: &str) -> String {
     answers_to(input.as_bytes())
 }
 
-fn hex(bytes: &[u8]) -> String {
+pub(crate) fn hex(bytes: &[u8]) -> String {
     bytes.iter().map(|byte| format!("{byte:02X}")).collect()
 }
 
-fn fresh_state() -> String {
+pub(crate) fn fresh_state() -> String {
     hex(&state::encode(&Device::fresh()))
 }
 
@@ -887,7 +893,7 @@ pub(crate) fn lines(commands: &[u8]) -> impl Iterator<Item = &[u8]> {
 }
 
 /// Counts, by their numbers, how often each ending and each refusal answers these commands.
-fn outcomes(source: &'static Source, counted: &[u8]) -> ([u32; 25], [u32; 25]) {
+pub(crate) fn outcomes(source: &'static Source, counted: &[u8]) -> ([u32; 25], [u32; 25]) {
     let commands = commands(source, 1, 6_000);
     let answers = answers_to(&commands);
     let (mut endings, mut refusals) = ([0; 25], [0; 25]);
@@ -943,7 +949,7 @@ fn random_images_end_in_every_way() {
 
 #[test]
 fn random_runs_are_as_many_as_asked_for() {
-    for source in [&RUNS, &IMAGES] {
+    for source in [&RUNS, &IMAGES, &NESTED] {
         for seed in 0..6 {
             for count in [0, 1, 2, 150] {
                 let commands = commands(source, seed, count);

@@ -1,8 +1,8 @@
 //! Random commands that run scripts, mostly valid ones, and functions that all random runs use.
 
 use crate::compiler::{self, RECORD_BYTES, WORD_LIMIT};
-use crate::generate::{Generator, Source};
-use crate::own_run::own_run;
+use crate::generate::{Generator, Scenario, Source};
+use crate::own_run::{own_run, OwnRun};
 use crate::programs::Programs;
 use crate::scripts;
 use crate::sequencer::{self, Sequencer, COUNTER_LIMIT, COUNT_LIMIT, EVENT_LIMIT};
@@ -28,7 +28,7 @@ const LONGEST_BUDGET: u32 = 100_000;
 
 /// A command has more events than a run may have only if its script is shorter than this, so that
 /// the line is not too long.
-const SHORT_SCRIPT: usize = 14_000;
+pub const SHORT_SCRIPT: usize = 14_000;
 
 impl Generator {
     pub fn programs(&mut self) -> Programs<'_> {
@@ -44,11 +44,11 @@ impl Generator {
     pub fn run_script(&mut self) {
         let script = self.script_to_run();
         let events = self.event_list(40, script.len() < SHORT_SCRIPT);
-        let line = self.script_line(&events, &script);
+        let line = self.script_line('T', &events, &script);
         self.line(&line);
     }
 
-    fn script_to_run(&mut self) -> Vec<u8> {
+    pub fn script_to_run(&mut self) -> Vec<u8> {
         match self.random.below(40) {
             0..=19 => self.small_script(),
             20..=23 => {
@@ -78,28 +78,38 @@ impl Generator {
         }
     }
 
-    fn small_script(&mut self) -> Vec<u8> {
+    pub fn small_script(&mut self) -> Vec<u8> {
         let statements = self.random.below(12);
         scripts::encode(&self.programs().script(statements))
     }
 
-    /// Budget and log are mostly large enough. Sometimes they are exactly large enough, or too
-    /// small.
-    fn script_line(&mut self, events: &[u32], script: &[u8]) -> Vec<u8> {
+    /// The own run of a script on the present device, if it is accepted and ends soon enough.
+    pub fn whole_run<'e>(&self, events: &'e [u32], script: &[u8]) -> Option<OwnRun<'e>> {
         let device = self.device();
         let accepted = compiler::compile(script, &mut [0; COMPILE_LIMIT]).is_ok()
             && sequencer::judge(device, &Sequencer::fresh(), events).is_ok();
-        let own = match accepted {
+        match accepted {
             true => own_run(script, device, events, OWN_RUN_STEPS),
             false => None,
+        }
+    }
+
+    /// For a script that is refused, or whose run is very long or never ends. The budget keeps the
+    /// run short.
+    pub fn short_budget_line(&mut self, command: char, events: &[u32], script: &[u8]) -> Vec<u8> {
+        let budget = match self.random.below(3) {
+            0 => self.random.pick(&[0, 1, 2, 100, LONGEST_BUDGET]),
+            _ => self.random.below(3_000),
         };
-        let Some(own) = own else {
-            let budget = match self.random.below(3) {
-                0 => self.random.pick(&[0, 1, 2, 100, LONGEST_BUDGET]),
-                _ => self.random.below(3_000),
-            };
-            let size = self.random.below(64) as usize;
-            return self.run_line('T', budget, size, events, script);
+        let size = self.random.below(64) as usize;
+        self.run_line(command, budget, size, events, script)
+    }
+
+    /// Budget and log are mostly large enough. Sometimes they are exactly large enough, or too
+    /// small.
+    fn script_line(&mut self, command: char, events: &[u32], script: &[u8]) -> Vec<u8> {
+        let Some(own) = self.whole_run(events, script) else {
+            return self.short_budget_line(command, events, script);
         };
         let steps = u32::try_from(own.steps).expect("the run is within the step limit");
         let budget = match self.random.below(24) {
@@ -121,7 +131,7 @@ impl Generator {
             7 if self.random.one_in(8) => LOG_LIMIT,
             _ => entries + self.random.below(6) as usize,
         };
-        self.run_line('T', budget, size.min(LOG_LIMIT), events, script)
+        self.run_line(command, budget, size.min(LOG_LIMIT), events, script)
     }
 
     // Events.
@@ -283,16 +293,22 @@ impl Generator {
 
     // Devices out of range.
 
-    /// Runs that are refused, then a state in range again.
     pub fn run_on_broken_device(&mut self) {
+        self.on_broken_device(&[
+            Generator::run_image,
+            Generator::run_script,
+            Generator::run_script,
+        ]);
+    }
+
+    /// Runs that are refused, then a state in range again.
+    pub fn on_broken_device(&mut self, scenarios: &[Scenario]) {
         let before = self.good_state();
         let bytes = self.boundary_state(&before);
         self.load(&bytes);
         for _ in 0..=self.random.below(2) {
-            match self.random.below(3) {
-                0 => self.run_image(),
-                _ => self.run_script(),
-            }
+            let scenario = self.random.pick(scenarios);
+            scenario(self);
         }
         if !self.device().in_range() {
             match self.random.below(3) {
@@ -315,7 +331,8 @@ impl Generator {
             }
             1 => {
                 let script = self.small_script();
-                self.script_line(&events, &script)
+                let command = self.random.pick(&['T', 'N']);
+                self.script_line(command, &events, &script)
             }
             _ => {
                 let script: Vec<_> = (0..self.random.below(4))
@@ -337,8 +354,9 @@ impl Generator {
     pub fn run_beyond_limits(&mut self) {
         let script = self.small_script();
         let image = image_of(&script);
-        let (command, bytes) = match self.random.below(2) {
+        let (command, bytes) = match self.random.below(4) {
             0 => ('T', script),
+            1 => ('N', script),
             _ => ('X', image),
         };
         let events = self.event_list(4, false);

@@ -1,12 +1,14 @@
 //! The stream of commands and answers (docs/CASES.md).
 
 use std::fmt;
+use std::hash::{DefaultHasher, Hash, Hasher};
 use std::io::{self, BufRead, Write};
 
+use crate::blocks;
 use crate::compiler::{self, RECORD_BYTES, WORD_LIMIT};
 use crate::device::{Access, Answer, Device, Outputs, Refusal};
-use crate::own_run::{own_run, OwnRun};
-use crate::sequencer::{self, Ended, Ending, Lent, Sequencer, COUNTER_LIMIT};
+use crate::own_run::{self, own_run, OwnRun};
+use crate::sequencer::{self, Ended, Ending, Lent, Observer, Sequencer, COUNTER_LIMIT};
 use crate::state::{self, StateBytes};
 
 /// A line may have at most this many bytes before its line feed.
@@ -26,8 +28,12 @@ pub const EVENTS_READ: usize = 4_352;
 /// half is not the number of an owner.
 const LOG_LENT: u64 = 0xA000_0000_0000_0000;
 
-/// The interpreter gives up after this many steps.
+/// The own run of a script, which has no budget, is left after this many steps.
 pub const OWN_RUN_STEPS: u64 = 1 << 18;
+
+/// This many accesses of a run are kept. Of those after them only a checksum is, because a run can
+/// have more accesses than fit into the memory.
+const ACCESSES_KEPT: usize = 1 << 18;
 
 /// Before the compiler is called, byte k of the buffer is k modulo this.
 const BUFFER_CYCLE: usize = 251;
@@ -53,9 +59,10 @@ enum Command {
     Sequencer(Sequencer),
     RunImage(Request),
     RunScript(Request),
+    Interpret(Request),
 }
 
-/// The arguments of `X` and `T`.
+/// The arguments of `X`, `T` and `N`.
 struct Request {
     budget: u32,
     size: usize,
@@ -106,6 +113,9 @@ impl Command {
                 budget, size, events, image,
             )?)),
             [b"T", budget, size, events, script] => Some(Command::RunScript(Request::parse(
+                budget, size, events, script,
+            )?)),
+            [b"N", budget, size, events, script] => Some(Command::Interpret(Request::parse(
                 budget, size, events, script,
             )?)),
             _ => None,
@@ -217,6 +227,7 @@ pub enum Reply {
     /// The sequencer was set.
     Set,
     Ran(Box<Ran>),
+    Interpreted(Box<Interpreted>),
     Unread,
 }
 
@@ -229,7 +240,15 @@ pub struct Ran {
     pub log: Vec<u64>,
 }
 
-/// A refusal of the compiler or of the sequencer.
+/// An interpreted script, refused or not, and the device and log after it. There is no sequencer.
+#[derive(Clone, Debug, PartialEq, Eq)]
+pub struct Interpreted {
+    pub outcome: Result<Ended, RunRefusal>,
+    pub state: StateBytes,
+    pub log: Vec<u64>,
+}
+
+/// A refusal of the compiler, the sequencer or the interpreter.
 #[derive(Clone, Copy, Debug, PartialEq, Eq)]
 pub struct RunRefusal {
     pub number: u32,
@@ -254,32 +273,63 @@ impl From<sequencer::Refusal> for RunRefusal {
     }
 }
 
+impl From<own_run::Refusal> for RunRefusal {
+    fn from(refusal: own_run::Refusal) -> Self {
+        RunRefusal {
+            number: refusal.number(),
+            place: refusal.place(),
+        }
+    }
+}
+
 impl fmt::Display for Ran {
     fn fmt(&self, line: &mut fmt::Formatter<'_>) -> fmt::Result {
-        match &self.outcome {
-            Ok(ended) => write!(
-                line,
-                "ENDED {} {} {} {}",
-                ended.ending.number(),
-                ended.steps,
-                ended.events_taken,
-                ended.values_logged
-            )?,
-            Err(refusal) => write!(line, "REFUSED {} {}", refusal.number, refusal.place)?,
-        }
+        write_outcome(line, &self.outcome)?;
         write!(line, " {} {}", self.sequencer.place, self.sequencer.used)?;
         for counter in self.sequencer.counters {
             write!(line, " {counter}")?;
         }
-        line.write_str(" ")?;
-        write_bytes(line, &self.state)?;
-        if !self.log.is_empty() {
-            line.write_str(" ")?;
-        }
-        self.log
-            .iter()
-            .try_for_each(|entry| write!(line, "{entry:016X}"))
+        write_state_and_log(line, &self.state, &self.log)
     }
+}
+
+impl fmt::Display for Interpreted {
+    fn fmt(&self, line: &mut fmt::Formatter<'_>) -> fmt::Result {
+        write_outcome(line, &self.outcome)?;
+        write_state_and_log(line, &self.state, &self.log)
+    }
+}
+
+fn write_outcome(
+    line: &mut fmt::Formatter<'_>,
+    outcome: &Result<Ended, RunRefusal>,
+) -> fmt::Result {
+    match outcome {
+        Ok(ended) => write!(
+            line,
+            "ENDED {} {} {} {}",
+            ended.ending.number(),
+            ended.steps,
+            ended.events_taken,
+            ended.values_logged
+        ),
+        Err(refusal) => write!(line, "REFUSED {} {}", refusal.number, refusal.place),
+    }
+}
+
+/// For a log of length 0 the space before it is left out too.
+fn write_state_and_log(
+    line: &mut fmt::Formatter<'_>,
+    state: &StateBytes,
+    log: &[u64],
+) -> fmt::Result {
+    line.write_str(" ")?;
+    write_bytes(line, state)?;
+    if !log.is_empty() {
+        line.write_str(" ")?;
+    }
+    log.iter()
+        .try_for_each(|entry| write!(line, "{entry:016X}"))
 }
 
 impl fmt::Display for Reply {
@@ -317,6 +367,7 @@ impl fmt::Display for Reply {
             }
             Reply::Set => line.write_str("SET"),
             Reply::Ran(ran) => ran.fmt(line),
+            Reply::Interpreted(interpreted) => interpreted.fmt(line),
             Reply::Unread => line.write_str("UNREAD"),
         }
     }
@@ -335,6 +386,7 @@ impl fmt::Display for Outputs {
 }
 
 /// One device and one sequencer, fresh at first, on which the commands are carried out.
+#[derive(Clone)]
 pub struct Session {
     device: Device,
     sequencer: Sequencer,
@@ -403,9 +455,22 @@ impl Session {
                 Ok(self.ran(outcome, log))
             }
             Command::RunScript(request) => {
-                let mut log = request.log();
-                let outcome = self.run_script(&request, &mut log);
-                Ok(self.ran(outcome, log))
+                let (left, sequencer) = self.both_ways(&request);
+                self.device = left.device;
+                if left.outcome.is_ok() {
+                    self.sequencer = sequencer;
+                }
+                Ok(self.ran(left.outcome, left.log))
+            }
+            // The sequencer of the compiled script is not used any further.
+            Command::Interpret(request) => {
+                let (left, _) = self.both_ways(&request);
+                self.device = left.device;
+                Ok(Reply::Interpreted(Box::new(Interpreted {
+                    outcome: left.outcome,
+                    state: state::encode(&self.device),
+                    log: left.log,
+                })))
             }
         }
     }
@@ -430,107 +495,163 @@ impl Session {
         Ok(ended)
     }
 
-    /// The answer comes from the interpreter if it can give one, and otherwise from the sequencer.
-    /// The sequencer runs the compiled script in both cases, and the results are compared.
-    fn run_script(&mut self, request: &Request, log: &mut [u64]) -> Result<Ended, RunRefusal> {
-        let mut image = vec![0; WORD_LIMIT * RECORD_BYTES];
-        let words = compiler::compile(&request.bytes, &mut image)?;
-        image.truncate(words * RECORD_BYTES);
-        sequencer::judge(&self.device, &Sequencer::fresh(), &request.events)?;
-        let own = own_run(&request.bytes, &self.device, &request.events, OWN_RUN_STEPS);
+    /// Interprets a script, and also compiles it and runs its image. Panics if the two differ.
+    /// Returns what the interpreter leaves, and the sequencer after the run of the image.
+    fn both_ways(&self, request: &Request) -> (Left, Sequencer) {
+        let by_records = Left::of_interpreter(&self.device, request);
+        let (by_words, sequencer) = Left::of_image(&self.device, request);
+        by_records.check_same(&by_words);
+        if let Ok(ended) = &by_records.outcome {
+            by_records.check_own_run(ended, &self.device, request);
+            if ended.ending == Ending::Halted {
+                check_at_halt(&sequencer, &request.bytes);
+            }
+        }
+        (by_records, sequencer)
+    }
+}
 
-        let mut by_words = ByWords {
-            device: self.device.clone(),
-            sequencer: Sequencer::fresh(),
-            log: log.to_vec(),
-            accesses: Vec::new(),
-        };
-        let lent = Lent {
-            image: &image,
+/// The accesses of a run.
+#[derive(Default)]
+struct Accesses {
+    first: Vec<Access>,
+    /// How many there are, those that are not kept included.
+    count: u64,
+    rest: DefaultHasher,
+}
+
+impl Observer for Accesses {
+    fn access(&mut self, access: impl FnOnce() -> Access) {
+        self.count += 1;
+        if self.first.len() < ACCESSES_KEPT {
+            self.first.push(access());
+        } else {
+            access().hash(&mut self.rest);
+        }
+    }
+}
+
+/// What a script leaves, interpreted or compiled. After a refusal device and log are as before.
+struct Left {
+    outcome: Result<Ended, RunRefusal>,
+    device: Device,
+    log: Vec<u64>,
+    accesses: Accesses,
+}
+
+impl Left {
+    fn of_interpreter(device: &Device, request: &Request) -> Left {
+        let (mut device, mut log) = (device.clone(), request.log());
+        let mut accesses = Accesses::default();
+        let lent = own_run::Lent {
+            script: &request.bytes,
             events: &request.events,
             budget: request.budget,
-            log: &mut by_words.log,
+            log: &mut log,
         };
-        let (device, held) = (&mut by_words.device, &mut by_words.sequencer);
-        let ended = match own {
-            // The run may be long, so its accesses are not recorded.
-            None => sequencer::run(lent, device, held, &mut ())?,
-            Some(_) => sequencer::run(lent, device, held, &mut by_words.accesses)?,
-        };
-
-        let Some(own) = own else {
-            return Ok(self.leave(ended, by_words, log));
-        };
-        if own.steps > u64::from(request.budget) || own.entries.len() > log.len() {
-            by_words.check_stopped(&ended, &own, request);
-            return Ok(self.leave(ended, by_words, log));
+        let outcome = own_run::interpret(lent, &mut device, &mut accesses);
+        Left {
+            outcome: outcome.map_err(RunRefusal::from),
+            device,
+            log,
+            accesses,
         }
-        let by_own_run = Ended {
-            ending: Ending::Halted,
-            steps: own.steps,
-            events_taken: request.events.len() - own.events_left.len(),
-            values_logged: own.entries.len(),
+    }
+
+    /// Compiles the script and runs its image. Also returns the sequencer, which starts as a fresh
+    /// one.
+    fn of_image(device: &Device, request: &Request) -> (Left, Sequencer) {
+        let (mut device, mut log) = (device.clone(), request.log());
+        let mut accesses = Accesses::default();
+        let mut sequencer = Sequencer::fresh();
+        let mut image = [0; WORD_LIMIT * RECORD_BYTES];
+        let compiled = compiler::compile(&request.bytes, &mut image).map_err(RunRefusal::from);
+        let outcome = compiled.and_then(|words| {
+            let lent = Lent {
+                image: &image[..words * RECORD_BYTES],
+                events: &request.events,
+                budget: request.budget,
+                log: &mut log,
+            };
+            let ended = sequencer::run(lent, &mut device, &mut sequencer, &mut accesses)?;
+            Ok(ended)
+        });
+        let left = Left {
+            outcome,
+            device,
+            log,
+            accesses,
         };
-        log[..own.entries.len()].copy_from_slice(&own.entries);
-        self.device = own.device;
-        self.sequencer = Sequencer {
-            place: u32::try_from(words - 1).expect("an image has at most 1,024 words"),
-            ..Sequencer::fresh()
-        };
+        (left, sequencer)
+    }
+
+    fn check_same(&self, by_words: &Left) {
         assert_eq!(
-            ended, by_own_run,
+            by_words.outcome, self.outcome,
             "sequencer and interpreter end the same way"
         );
-        assert_eq!(by_words.accesses, own.accesses, "the accesses are the same");
         assert_eq!(by_words.device, self.device, "the devices are the same");
+        assert_eq!(by_words.log, self.log, "the logs are the same");
+        let (one, other) = (&self.accesses, &by_words.accesses);
+        assert_eq!(other.first, one.first, "the accesses are the same");
         assert_eq!(
-            by_words.sequencer, self.sequencer,
-            "the place of the sequencer is the halt"
+            (other.count, other.rest.finish()),
+            (one.count, one.rest.finish()),
+            "the accesses after those that are kept are the same"
         );
-        assert_eq!(by_words.log, log, "the logs are the same");
-        Ok(by_own_run)
     }
 
-    fn leave(&mut self, ended: Ended, by_words: ByWords, log: &mut [u64]) -> Ended {
-        self.device = by_words.device;
-        self.sequencer = by_words.sequencer;
-        log.copy_from_slice(&by_words.log);
-        ended
-    }
-}
-
-/// The results of the compiled script on the sequencer.
-struct ByWords {
-    device: Device,
-    sequencer: Sequencer,
-    log: Vec<u64>,
-    accesses: Vec<Access>,
-}
-
-impl ByWords {
-    /// If the budget or the log is too small, checks that the run is the beginning of the
-    /// interpreter's run.
-    fn check_stopped(&self, ended: &Ended, own: &OwnRun, request: &Request) {
+    /// Checks that the run is the script's own run, or its beginning if the budget or the log is too
+    /// small. Of a very long run only the numbers are checked.
+    fn check_own_run(&self, ended: &Ended, before: &Device, request: &Request) {
+        let budget = u64::from(request.budget);
         match ended.ending {
-            Ending::BudgetSpent => assert_eq!(ended.steps, u64::from(request.budget)),
-            Ending::LogFull => assert_eq!(ended.values_logged, self.log.len()),
-            other => panic!("a compiled script ended with {}", other.number()),
+            Ending::Halted => assert!(ended.steps <= budget),
+            Ending::BudgetSpent => assert_eq!(ended.steps, budget),
+            Ending::LogFull => assert!(ended.steps < budget && ended.values_logged == request.size),
+            other => panic!("a script ended with {}", other.number()),
         }
+        assert_eq!(
+            ended.events_taken as u64,
+            self.accesses.count.min(request.events.len() as u64),
+            "each access takes an event while there are any"
+        );
+        let own = own_run(&request.bytes, before, &request.events, OWN_RUN_STEPS);
+        match own {
+            Some(own) if ended.ending == Ending::Halted => self.check_whole(ended, &own),
+            Some(own) => self.check_beginning(ended, &own),
+            None => assert!(ended.ending != Ending::Halted || ended.steps > OWN_RUN_STEPS),
+        }
+    }
+
+    fn check_whole(&self, ended: &Ended, own: &OwnRun) {
+        assert_eq!(ended.steps, own.steps, "the steps are those of the own run");
+        assert_eq!(self.device, own.device, "the device is that of the own run");
+        assert_eq!(self.log[..ended.values_logged], own.entries);
+        assert_eq!(self.accesses.first, own.accesses);
+    }
+
+    fn check_beginning(&self, ended: &Ended, own: &OwnRun) {
         assert!(ended.steps < own.steps, "the run stops before its end");
         assert!(
-            own.accesses.starts_with(&self.accesses),
-            "the accesses are those of the interpreter, in order"
-        );
-        assert_eq!(
-            ended.events_taken,
-            request.events.len().min(self.accesses.len()),
-            "each access takes an event while there are any"
+            own.accesses.starts_with(&self.accesses.first),
+            "the accesses are those of the own run, in order"
         );
         assert!(
             own.entries.starts_with(&self.log[..ended.values_logged]),
-            "the entries are those of the interpreter, in order"
+            "the entries are those of the own run, in order"
         );
     }
+}
+
+/// After a halt the sequencer is at the last word, and no counter is in use.
+fn check_at_halt(sequencer: &Sequencer, script: &[u8]) {
+    let script = blocks::nest(script).expect("the script was accepted");
+    let halt = Sequencer {
+        place: u32::try_from(blocks::word_count(&script) - 1).expect("there are few words"),
+        ..Sequencer::fresh()
+    };
+    assert_eq!(*sequencer, halt, "the place of the sequencer is the halt");
 }
 
 /// Answers every command of the input.

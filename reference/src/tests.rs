@@ -7,6 +7,7 @@ use crate::acpi::Acpi;
 use crate::device::{Answer, Device, Outputs, Owner, Refusal};
 use crate::generate::{self, ANYTHING};
 use crate::images::IMAGES;
+use crate::nested::NESTED;
 use crate::random::Random;
 use crate::runs::RUNS;
 use crate::state::{self, StateBytes};
@@ -736,7 +737,10 @@ fn only_done_accesses_change_the_state() {
                 assert_eq!(session.device(), &settled);
             }
             Reply::Ran(ran) if ran.outcome.is_err() => assert_eq!(session.device(), &settled),
-            Reply::Access(..) | Reply::Event(_) | Reply::Ran(_) => {
+            Reply::Interpreted(refused) if refused.outcome.is_err() => {
+                assert_eq!(session.device(), &settled);
+            }
+            Reply::Access(..) | Reply::Event(_) | Reply::Ran(_) | Reply::Interpreted(_) => {
                 assert!(session.device().in_range());
             }
             Reply::Loaded | Reply::Fresh => {}
@@ -751,6 +755,7 @@ fn random_ticks_reach_both_timer_changes() {
         (&ANYTHING, 20_000, 30),
         (&RUNS, 2_000, 20),
         (&IMAGES, 2_000, 8),
+        (&NESTED, 2_000, 20),
     ] {
         let mut commands = Vec::new();
         generate::write_commands(source, 1, count, &mut commands)
@@ -762,7 +767,11 @@ fn random_ticks_reach_both_timer_changes() {
             let reply = session.answer(line);
             let after = &session.device().acpi;
             let set = after.pm1_status & !before & 0x0001 != 0;
-            if set && matches!(reply, Reply::Event(_) | Reply::Ran(_)) {
+            let by_ticks = matches!(
+                reply,
+                Reply::Event(_) | Reply::Ran(_) | Reply::Interpreted(_)
+            );
+            if set && by_ticks {
                 match after.timer {
                     0x80_0000.. => at_half += 1,
                     _ => at_wrap += 1,

@@ -1,11 +1,16 @@
 //! Reads a script on standard input, compiles it, runs it on a fresh device and prints the values that the run logged, each with the owner
-//! of its port. Then reads one register of the device after the run.
-use runnelopal::{compile, run, LogEntry, IMAGE_BYTES, RECORD_BYTES};
+//! of its port. Interprets the same script, without the image, and prints how that ends. Then reads one register of the device after the run.
+use runnelopal::{compile, interpret, run, LogEntry, IMAGE_BYTES, RECORD_BYTES};
 use std::io::Read;
 
 fn main() {
     let mut script = Vec::new();
     std::io::stdin().read_to_end(&mut script).expect("standard input can be read");
+    let mut interpreted_log = [0; 1024];
+    let interpreted = interpret(&script, &[], 100_000, &mut interpreted_log);
+    if let Err(refusal) = &interpreted {
+        println!("interpreted: refused {} at {}", refusal.number, refusal.place);
+    }
     let mut image = vec![0; IMAGE_BYTES];
     let words = match compile(&script, &mut image) {
         Ok(words) => words,
@@ -23,6 +28,11 @@ fn main() {
         println!("logged {:08X} {}", read.value, read.owner);
     }
     println!("ended with {} after {} steps", done.ending, done.steps);
+    let interpreted = interpreted.expect("a script that compiles is not refused");
+    println!("interpreted: ended with {} after {} steps", interpreted.ending, interpreted.steps);
+    if log != interpreted_log || done.logged != interpreted.logged || done.device != interpreted.device {
+        println!("interpreted: a different log or device");
+    }
 
     let answer = done.device.read(1, 0x2E).expect("the device is in range");
     println!("002E reads {:02X}, status {}, owner {}, refusal 0", answer.value, answer.status, answer.owner);

@@ -1,4 +1,4 @@
-//! Runnelopal from Rust: compiles board setup scripts, runs them on a model of the chip, and makes single register accesses.
+//! Runnelopal from Rust: compiles or interprets board setup scripts, runs them on a model of the chip, and makes single register accesses.
 //!
 //! These are safe wrappers of the functions in `target/staticlib/librunnelopal.a`, which `rt staticlib runnelopal` builds. The functions
 //! have no preconditions: every byte and number is a valid argument, and a call that cannot do what it is asked to do returns a
@@ -100,6 +100,19 @@ extern "C" {
     fn runnelopal_run(
         image: *const u8,
         image_bytes: usize,
+        events: *const u32,
+        event_count: usize,
+        budget: u32,
+        log: *mut u64,
+        log_count: usize,
+        state: *mut u8,
+        state_bytes: usize,
+        answer: *mut u64,
+        answer_count: usize,
+    ) -> u32;
+    fn runnelopal_interpret(
+        script: *const u8,
+        script_bytes: usize,
         events: *const u32,
         event_count: usize,
         budget: u32,
@@ -237,6 +250,56 @@ pub fn run(image: &[u8], events: &[u32], budget: u32, log: &mut [u64]) -> Result
             taken: answer[2] as usize,
             logged: answer[3] as usize,
             place: answer[4],
+            device,
+        },
+    )
+}
+
+/// The result of a script that was interpreted and not refused.
+#[derive(Clone, Debug, PartialEq, Eq)]
+pub struct Interpretation {
+    /// How the run ended: `HALTED`, `BUDGET_SPENT` or `LOG_FULL` of the module [`ending`].
+    pub ending: u32,
+    /// The words that the compiled image would execute, the halt included.
+    pub steps: u64,
+    /// Events applied.
+    pub taken: usize,
+    /// Values logged: so many entries of `log` are filled.
+    pub logged: usize,
+    /// The device after the run.
+    pub device: Device,
+}
+
+/// Interprets a script on a fresh device: walks through its nested records, without an image. The result is that of [`compile`] and [`run`], at
+/// every budget and every length of `log`. Refusals: 1 to 8 and 12.
+pub fn interpret(script: &[u8], events: &[u32], budget: u32, log: &mut [u64]) -> Result<Interpretation, Refusal> {
+    let mut answer = [0u64; 4];
+    let mut device = Device::fresh();
+    // SAFETY: as in `compile`.
+    let outcome = unsafe {
+        runnelopal_interpret(
+            script.as_ptr(),
+            script.len(),
+            events.as_ptr(),
+            events.len(),
+            budget,
+            log.as_mut_ptr(),
+            log.len(),
+            device.state.as_mut_ptr(),
+            device.state.len(),
+            answer.as_mut_ptr(),
+            answer.len(),
+        )
+    };
+    let number = if (refusal::BAD_LENGTH..=refusal::BAD_EVENT).contains(&outcome) { outcome } else { 0 };
+    refused(
+        number,
+        answer[0],
+        Interpretation {
+            ending: outcome,
+            steps: answer[1],
+            taken: answer[2] as usize,
+            logged: answer[3] as usize,
             device,
         },
     )

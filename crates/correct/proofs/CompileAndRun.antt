@@ -1,5 +1,5 @@
--- The whole run of a compiled script: `run` does not refuse it (`none-refused`), and it halts on its last word, with the
--- world and the steps of the script's own run (`whole-run`).
+-- The whole run of a compiled script: `run` does not refuse it (`none-refused`), and it ends as the walk of the script does (`whole-walk`). So it
+-- is the script's own run (`whole-run`) if the log and the budget are large enough.
 use Prim.Native.Nat.{ℕ, suc, _-_, _*_, _%_, _≤_, _<_}
 use mathlib.Core.Path.{_≡_, refl, sym, ap, _∙_}
 use mathlib.Core.Bool.{true, false}
@@ -15,23 +15,26 @@ use Rattle.compiler.specs.Compile.{compileResult, imageAfter}
 use Rattle.compiler.specs.Words.{placeAfter, emit, halt, imageBytes, wordsOf}
 use Rattle.device.specs.Device.{deviceInRange}
 use Rattle.device.specs.declared.Device.{Device}
+use Rattle.interpreter.specs.Walk.{halt as walkHalt, scriptWalk, walk}
 use Rattle.record.specs.declared.Record.{Record}
 use Rattle.script.proofs.Flat.{accepts}
 use Rattle.script.proofs.Loops.{fields-within, fieldsWithin, loops-within, loopsWithin}
 use Rattle.script.specs.Nested.{Body, scriptBody}
 use Rattle.script.specs.Records.{recordsOf}
 use Rattle.script.specs.Refusals.{scriptRefusal, wordsIn}
-use Rattle.semantics.specs.OwnRun.{ownRun, run, scriptRun}
+use Rattle.semantics.specs.OwnRun.{run, scriptRun}
 use Rattle.semantics.specs.World.{startWorld}
 use Rattle.sequencer.specs.Run.{badImage, runEnd, eventsRefusal, imageRun, runRefusal}
 use Rattle.step.specs.Sequencer.{freshSequencer, sequencerInRange}
 use Rattle.step.specs.Step.{machine}
 use Rattle.step.specs.Word.{imageWords}
 use Rattle.correct.specs.CompilerCorrect.{Bytes, wordsWritten}
-use Rattle.correct.proofs.Follows.{halts-there}
+use Rattle.correct.specs.CompileAndRun.{ownEnd}
+use Rattle.correct.proofs.Follows.{SameEnd, halts-there}
 use Rattle.correct.proofs.Ports.{ports-within, portsWithin}
 use Rattle.correct.proofs.Simulation.{simulates}
 use Rattle.correct.proofs.Steps.{step-halt}
+use Rattle.correct.proofs.Suffices.{own-walk}
 use Rattle.correct.proofs.Words.{At, all-fit, halt-fits, image-words, lies, lies-after}
 
 -- ---- the words written are those of the script
@@ -61,21 +64,20 @@ module _ (b : Body) (loops : loopsWithin 0 b) (fields : fieldsWithin b) (ports :
   counted-words : imageWords (imageBytes words) ≡ suc (placeAfter 0 b)
   counted-words = omega (arith, image-words words, emit-length b 0 (halt ∷ []))
 
+  -- it ends as the walk of the body does, at every budget and every length of the log
   body-run :
-      (d : Device) (events : List ℕ) (budget room : ℕ) → length (ownRun b (run (startWorld d events) 0) .world .logged) ≤ room
-      → suc (ownRun b (run (startWorld d events) 0) .steps) ≤ budget
-      → imageRun (imageBytes words) d freshSequencer events budget room
-      ≡ runEnd 0 (suc (ownRun b (run (startWorld d events) 0) .steps))
-      (machine (placeAfter 0 b) [] (ownRun b (run (startWorld d events) 0) .world))
+      (d : Device) (events : List ℕ) (budget room : ℕ)
+      → SameEnd (placeAfter 0 b) (walk budget room b (walkHalt budget) (run (startWorld d events) 0))
+      (imageRun (imageBytes words) d freshSequencer events budget room)
   unfolding imageRun
-  body-run d events budget room g l =
+  body-run d events budget room =
       let image = imageBytes words in
+      let last = placeAfter 0 b in
       let at : At image 0 words = lies words (all-fit b 0 (halt ∷ []) fields ports (omega arith) (halt-fits, tt)) in
-      let inside : placeAfter 0 b < imageWords image = omega (arith, counted-words) in
-      let r = run (startWorld d events) 0 in
+      let inside : last < imageWords image = omega (arith, counted-words) in
       let stop = lies-after image b 0 (halt ∷ []) at in
-      halts-there (simulates image room b 0 [] r (halt ∷ []) at inside loops fields g)
-      (step-halt image room (placeAfter 0 b) [] (ownRun b r .world) inside (stop .0)) budget (omega arith)
+      simulates image budget room last b 0 [] (walkHalt budget) (halt ∷ []) at inside loops fields
+      (λ r. halts-there (step-halt image room last [] (r .world) inside (stop .0))) (run (startWorld d events) 0) .ends budget (omega arith)
 
 -- ---- the call of `run`
 pub fresh-in-range : sequencerInRange freshSequencer ≡ true
@@ -116,23 +118,26 @@ none-refused script buffer d events accepted inRange all =
     refuses-none (wordsWritten script buffer) d events
     (ap badImage (written-are script buffer accepted) ∙ good-image (wordsOf script) (omega arith) (omega arith)) inRange all
 
--- the run of the words written halts on the last word, with the world and the steps of the script's own run
-pub whole-run :
-    (script buffer : List ℕ) (d : Device) (events : List ℕ) (budget : ℕ) (log : List ℕ) → Bytes script
-    → compileResult script buffer .refusal ≡ 0 → length (scriptRun script d events .world .logged) ≤ length log
-    → scriptRun script d events .steps ≤ budget
-    → imageRun (wordsWritten script buffer) d freshSequencer events budget (length log)
-    ≡ runEnd 0 (scriptRun script d events .steps)
-    (machine (compileResult script buffer .words - 1) [] (scriptRun script d events .world))
-unfolding scriptRun scriptBody wordsOf
-whole-run script buffer d events budget log bytes accepted g l =
-    let z = refuses-not script buffer accepted .0 in
+-- the run of the words of an accepted script ends as the walk of the script does
+pub whole-walk :
+    (script : List ℕ) (d : Device) (events : List ℕ) (budget room : ℕ) → Bytes script → scriptRefusal script .number ≡ 0
+    → SameEnd (wordsIn script - 1) (scriptWalk script d events budget room)
+    (imageRun (imageBytes (wordsOf script)) d freshSequencer events budget room)
+unfolding scriptWalk scriptBody wordsOf
+whole-walk script d events budget room bytes z =
     let faultless = accepts script z .faultless in
     let b = scriptBody script in
     let many = words-many script z in
-    let last : placeAfter 0 b ≡ compileResult script buffer .words - 1 = omega (arith, words-are script buffer accepted) in
-    let own = ownRun b (run (startWorld d events) 0) in
-    ap (λ (image : List ℕ). imageRun image d freshSequencer events budget (length log)) (written-are script buffer accepted)
-    ∙ body-run b (loops-within (recordsOf script) faultless) (fields-within (recordsOf script) faultless)
-    (ports-within script bytes faultless) (omega arith) d events budget (length log) g l
-    ∙ ap (λ (place : ℕ). runEnd 0 (suc (own .steps)) (machine place [] (own .world))) last
+    let last : wordsIn script - 1 ≡ placeAfter 0 b = omega (arith, count-words script z) in
+    rw last
+    (body-run b (loops-within (recordsOf script) faultless) (fields-within (recordsOf script) faultless)
+    (ports-within script bytes faultless) (omega arith) d events budget room)
+
+-- so it is the script's own run and halts on the last word, if the log and the budget are large enough
+pub whole-run :
+    (script : List ℕ) (d : Device) (events : List ℕ) (budget room : ℕ) → Bytes script → scriptRefusal script .number ≡ 0
+    → length (scriptRun script d events .world .logged) ≤ room → scriptRun script d events .steps ≤ budget
+    → imageRun (imageBytes (wordsOf script)) d freshSequencer events budget room ≡ ownEnd script (scriptRun script d events)
+whole-run script d events budget room bytes z g l =
+    let s = rw (own-walk budget room script d events g l) at (whole-walk script d events budget room bytes z) in
+    sym (λ i. runEnd (s .sameOutcome i) (s .sameSteps i) (machine (s .onLast refl i) (s .noCounter refl i) (s .sameWorld i)))

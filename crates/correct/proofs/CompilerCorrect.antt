@@ -1,6 +1,6 @@
 -- The proof of the top theorem. The run comes from `whole-run`, the nested form of the records from `reading-flat` and `one-body`, and
 -- the refusals from `refuses-not` and `accepts-all`.
-use mathlib.Core.Path.{refl, ap, _∙_}
+use mathlib.Core.Path.{ap}
 use lib.ListN.{length}
 use Rattle.compiler.proofs.Compiling.{accepts-all, refuses-not}
 use Rattle.compiler.proofs.Refused.{refused-exactly}
@@ -14,18 +14,19 @@ use Rattle.semantics.specs.OwnRun.{scriptRun}
 use Rattle.sequencer.specs.Run.{RunEnd, logAfter, runAnswer}
 use Rattle.correct.specs.CompilerCorrect.{CompilerCorrect}
 use Rattle.correct.proofs.Fills.{events-left, front, rest}
-use Rattle.correct.proofs.CompileAndRun.{none-refused, whole-run}
+use Rattle.correct.proofs.CompileAndRun.{none-refused, whole-run, words-counted, written-are}
 
 pub compiler-correct : CompilerCorrect
 unfolding runAnswer logAfter scriptBody
 compiler-correct = record {
   sameRun = λ script buffer d events budget log bytes accepted inRange good room steps.
-      let e = whole-run script buffer d events budget log bytes accepted room steps in
+      let image = written-are script buffer accepted in
+      let e = rw (← image) at (whole-run script d events budget (length log) bytes (refuses-not script buffer accepted .0) room steps) in
       let n = none-refused script buffer d events accepted inRange good in
       let own = scriptRun script d events in
       record {
         halted = rw (n, e);
-        onLastWord = rw (n, e);
+        onLastWord = rw (n, e, words-counted script buffer accepted);
         noCounterInUse = rw (n, e);
         sameAccesses = ap (λ (x : RunEnd). x .machine .world .accesses) e;
         sameEntries = rw (n, e) (front (own .world .logged) log);

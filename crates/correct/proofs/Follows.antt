@@ -1,40 +1,68 @@
--- Steps put together: if one machine reaches another in some steps, a run from the first is a run from the second with the
--- rest of the budget.
-use Prim.Native.Nat.{ℕ, zero, suc, _+_, _-_, _≤_}
-use mathlib.Core.Path.{_≡_, ap, _∙_}
-use mathlib.Core.List.{List}
+-- The run of an image follows the walk of a script: at every budget and every length of the log it ends as the walk does (`Follows`). Here is
+-- one step of both: the budget is spent, or both go on, stop at a fault, or halt.
+use Prim.Native.Nat.{ℕ, zero, suc, _+_}
+use mathlib.Core.Path.{_≡_, refl}
+use mathlib.Core.Bool.{cond}
+use mathlib.Core.List.{List, []}
 use native.Mathlib.Omega.{arith}
-use Rattle.sequencer.specs.Run.{runEnd, follow, runFrom}
-use Rattle.step.specs.Step.{Machine, continues, halts, nextStep}
+use borrow.Author.Tests.{le-ltb, lt-ltb}
+use lib.Dec.{ltb}
+use Rattle.interpreter.specs.Walk.{WalkEnd, halt, walkEnd}
+use Rattle.semantics.specs.OwnRun.{Run, run}
+use Rattle.semantics.specs.World.{World}
+use Rattle.sequencer.specs.Run.{RunEnd, follow, runEnd, runFrom}
+use Rattle.step.specs.Step.{continues, faults, halts, machine, nextStep}
 
--- from one machine to another; the numbers are the steps counted so far at each of them
-pub data Reach (image : List ℕ) (room : ℕ) : ℕ → Machine → ℕ → Machine → Type 0 where
-  here : {s : ℕ} {m : Machine} → Reach image room s m s m
-  step : {s t : ℕ} {m n o : Machine} → nextStep image room m ≡ continues n → Reach image room (suc s) n t o
-      → Reach image room s m t o
+-- the walk and the run of the image end alike; if they halt, the run is on the last word with no counter in use
+pub record SameEnd (last : ℕ) (walked : WalkEnd) (ran : RunEnd) : Type 0 where
+  pub sameOutcome : walked .outcome ≡ ran .outcome
+  pub sameSteps : walked .run .steps ≡ ran .steps
+  pub sameWorld : walked .run .world ≡ ran .machine .world
+  pub onLast : walked .outcome ≡ 0 → last ≡ ran .machine .place
+  pub noCounter : walked .outcome ≡ 0 → [] ≡ ran .machine .counters
 
-module _ {image : List ℕ} {room : ℕ} where
-  pub then : {s t u : ℕ} {m n o : Machine} → Reach image room s m t n → Reach image room t n u o
-      → Reach image room s m u o
-  then here q = q
-  then (step h p) q = step h (then p q)
+-- from this place with these counters, in the world of r and with the budget that its steps leave, the run of the image ends as x
+pub record Follows (image : List ℕ) (budget room last at : ℕ) (cs : List ℕ) (r : Run) (x : WalkEnd) : Type 0 where
+  pub ends : (left : ℕ) → left + r .steps ≡ budget → SameEnd last x (runFrom image room left (r .steps) (machine at cs (r .world)))
 
-  steps-grow : {s t : ℕ} {m n : Machine} → Reach image room s m t n → s ≤ t
-  steps-grow here = omega arith
-  steps-grow (step h p) = let i = steps-grow p in omega arith
+-- both have stopped before the end
+stopped : {last at : ℕ} {cs : List ℕ} {r : Run} (n : ℕ) → (n ≡ 0 → ⊥)
+    → SameEnd last (walkEnd n r) (runEnd n (r .steps) (machine at cs (r .world)))
+stopped n some = record {
+  sameOutcome = refl;
+  sameSteps = refl;
+  sameWorld = refl;
+  onLast = λ e. absurd (some e);
+  noCounter = λ e. absurd (some e);
+}
 
-  -- the run from the first machine is the run from the second; each step takes 1 from the budget
-  pub follows : {s t : ℕ} {m n : Machine} → Reach image room s m t n → (before after : ℕ) → before + s ≡ after + t
-      → runFrom image room before s m ≡ runFrom image room after t n
-  follows {s} {m = m} here before after e =
-      let same : before ≡ after = omega arith in ap (λ (l : ℕ). runFrom image room l s m) same
-  follows (step h p) zero after e = let i = steps-grow p in absurd (omega arith)
-  follows (step h p) (suc before) after e = rw h (follows p before after (omega arith))
+module _ {image : List ℕ} {budget room last at : ℕ} {cs : List ℕ} {r : Run} where
+  -- "Budget is looked at first"
+  budgeted : {x : WalkEnd}
+      → ((left : ℕ) → left + suc (r .steps) ≡ budget
+      → SameEnd last x
+      (follow (runFrom image room left (suc (r .steps))) (r .steps) (machine at cs (r .world)) (nextStep image room (machine at cs (r .world)))))
+      → Follows image budget room last at cs r (cond (ltb (r .steps) budget) x (walkEnd 19 r))
+  budgeted {x} h = record { ends = from }
+    where
+      from : (left : ℕ) → left + r .steps ≡ budget
+          → SameEnd last (cond (ltb (r .steps) budget) x (walkEnd 19 r)) (runFrom image room left (r .steps) (machine at cs (r .world)))
+      from zero e = rw (le-ltb (r .steps) budget (omega arith)) (stopped 19 (omega arith))
+      from (suc left) e = rw (lt-ltb (r .steps) budget (omega arith)) (h left (omega arith))
 
-  -- a run that reaches a halt within its budget ends there
-  pub halts-there : {s t : ℕ} {m n : Machine} → Reach image room s m t n → nextStep image room n ≡ halts → (budget : ℕ)
-      → suc t ≤ budget + s
-      → runFrom image room budget s m ≡ runEnd 0 (suc t) n
-  halts-there {s} {t} {n = n} p h budget l =
-      follows p budget (suc (budget + s - suc t)) (omega arith)
-      ∙ ap (follow (runFrom image room (budget + s - suc t) (suc t)) t n) h
+  pub goes-on : {at' : ℕ} {cs' : List ℕ} {world : World} {x : WalkEnd}
+      → nextStep image room (machine at cs (r .world)) ≡ continues (machine at' cs' world)
+      → Follows image budget room last at' cs' (run world (suc (r .steps))) x
+      → Follows image budget room last at cs r (cond (ltb (r .steps) budget) x (walkEnd 19 r))
+  goes-on h k = budgeted (λ left e. rw h (k .ends left e))
+
+  pub faults-there : {n : ℕ} → nextStep image room (machine at cs (r .world)) ≡ faults n → (n ≡ 0 → ⊥)
+      → Follows image budget room last at cs r (cond (ltb (r .steps) budget) (walkEnd n r) (walkEnd 19 r))
+  faults-there {n} h some = budgeted (λ left e. rw h (stopped n some))
+
+pub halts-there : {image : List ℕ} {budget room last : ℕ} {r : Run} → nextStep image room (machine last [] (r .world)) ≡ halts
+    → Follows image budget room last last [] r (halt budget r)
+halts-there h =
+    budgeted
+    (λ left e.
+    rw h (record { sameOutcome = refl; sameSteps = refl; sameWorld = refl; onLast = λ z. refl; noCounter = λ z. refl }))

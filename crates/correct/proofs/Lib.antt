@@ -1,7 +1,7 @@
 pub mod Cases
 pub mod Follows
 pub mod Steps
-pub mod Grows
+pub mod Suffices
 pub mod Ports
 pub mod Words
 pub mod Simulation
@@ -9,3 +9,4 @@ pub mod CompileAndRun
 pub mod Fills
 pub mod CompilerCorrect
 pub mod OneCall
+pub mod InterpreterCorrect

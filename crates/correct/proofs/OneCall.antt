@@ -1,15 +1,16 @@
 -- Compiling and running gives `compileAndRunResult` and `compileAndRunLog`. A refusal by the compiler is that of `compileAndRunRefusal`. The run of
 -- an accepted script is its own run, by `whole-run`, if the log and the budget are large enough.
-use Prim.Native.Nat.{ℕ, _*_, _-_, _≤_}
-use mathlib.Core.Path.{_≡_, refl, sym, ap, _∙_}
+use Prim.Native.Nat.{ℕ, _*_, _≤_}
+use mathlib.Core.Path.{_≡_, refl, ap, _∙_}
 use mathlib.Core.Bool.{Bool, true, false, cond, not, _&&_}
-use mathlib.Core.List.{List, []}
+use mathlib.Core.List.{List}
+use native.Mathlib.Decide.{ℕ-discrete}
 use native.Mathlib.Omega.{arith}
 use borrow.Author.Tests.{eq-eqb, ne-eqb, leb-true}
 use lib.Dec.{eqb, leb}
-use lib.ListN.{length, take}
+use lib.ListN.{length}
 use Rattle.compiler.proofs.Compiling.{accepts-all, refuses-not}
-use Rattle.compiler.specs.Compile.{compileRefusal, compileResult, imageAfter}
+use Rattle.compiler.specs.Compile.{compileRefusal, compileResult}
 use Rattle.compiler.specs.Words.{imageBytes, wordsOf}
 use Rattle.compiler.specs.declared.CompileResult.{CompileResult}
 use Rattle.device.specs.Device.{deviceInRange}
@@ -17,17 +18,14 @@ use Rattle.device.specs.declared.Device.{Device}
 use Rattle.mask.proofs.Every.{and-left, and-right}
 use Rattle.record.specs.Record.{mostRecords, recordSize}
 use Rattle.script.proofs.Flat.{accepts}
-use Rattle.script.specs.Refusals.{scriptRefusal, wordsIn}
+use Rattle.script.specs.Refusals.{scriptRefusal}
 use Rattle.outcome.specs.Refusal.{refusal}
-use Rattle.outcome.specs.declared.Refusal.{Refusal}
-use Rattle.semantics.specs.OwnRun.{Run, scriptRun}
-use Rattle.sequencer.specs.Run.{RunEnd, runResult, badImage, eventsRefusal, imageRun, logAfter, runAnswer, runRefusal, refusedRun}
-use Rattle.step.specs.Step.{logFilled}
-use Rattle.step.specs.Sequencer.{freshSequencer, sequencerInRange}
-use Rattle.sequencer.specs.declared.RunResult.{RunResult}
+use Rattle.semantics.specs.OwnRun.{scriptRun}
+use Rattle.sequencer.specs.Run.{badImage, eventsRefusal, imageRun, logAfter, runAnswer, runRefusal, refusedRun}
+use Rattle.step.specs.Sequencer.{freshSequencer}
 use Rattle.correct.specs.CompilerCorrect.{Bytes, wordsWritten}
 use Rattle.correct.specs.CompileAndRun.{ownEnd, suffices, compileAndRunResult, compileAndRunEnd, compileAndRunLog, compileAndRunRefusal}
-use Rattle.correct.proofs.CompileAndRun.{fresh-in-range, good-image, whole-run, words-are, words-counted, words-many, written-are}
+use Rattle.correct.proofs.CompileAndRun.{fresh-in-range, good-image, whole-run, words-counted, words-many, written-are}
 
 -- ---- a refusal by the compiler; it is never 9, because the buffer of 12,288 bytes is long enough for 1,024 words
 script-refused :
@@ -40,6 +38,15 @@ whole-is-script : (script : List ℕ) (d : Device) (events : List ℕ) → (scri
     → compileAndRunRefusal script d events ≡ scriptRefusal script
 unfolding compileAndRunRefusal
 whole-is-script script d events n = rw (ne-eqb (scriptRefusal script .number) 0 n)
+
+-- a script that the call accepts is one that the compiler accepts
+pub call-accepts : (script : List ℕ) (d : Device) (events : List ℕ) → compileAndRunRefusal script d events .number ≡ 0
+    → scriptRefusal script .number ≡ 0
+call-accepts script d events h = pick (ℕ-discrete (scriptRefusal script .number) 0)
+  where
+    pick : Dec (scriptRefusal script .number ≡ 0) → scriptRefusal script .number ≡ 0
+    pick (yes z) = z
+    pick (no n) = rw (whole-is-script script d events n) at h
 
 compile-is-script : (script buffer : List ℕ) → (scriptRefusal script .number ≡ 0 → ⊥)
     → compileRefusal script buffer ≡ scriptRefusal script
@@ -77,24 +84,20 @@ same-refusal script buffer d events accepted =
     judged false = refl
 
 -- the run of the image ends as `compileAndRunEnd` says
-same-end :
-    (script buffer : List ℕ) (d : Device) (events : List ℕ) (budget : ℕ) (log : List ℕ) → Bytes script
-    → compileResult script buffer .refusal ≡ 0
-    → imageRun (wordsWritten script buffer) d freshSequencer events budget (length log)
-    ≡ compileAndRunEnd script d events budget (length log)
+pub same-end :
+    (script : List ℕ) (d : Device) (events : List ℕ) (budget room : ℕ) → Bytes script → scriptRefusal script .number ≡ 0
+    → imageRun (imageBytes (wordsOf script)) d freshSequencer events budget room ≡ compileAndRunEnd script d events budget room
 unfolding compileAndRunEnd
-same-end script buffer d events budget log bytes accepted =
-    pick (suffices (scriptRun script d events) budget (length log)) refl
+same-end script d events budget room bytes z = pick (suffices (scriptRun script d events) budget room) refl
   where
-    pick : (b : Bool) → suffices (scriptRun script d events) budget (length log) ≡ b
-        → imageRun (wordsWritten script buffer) d freshSequencer events budget (length log)
-        ≡ cond b (ownEnd script (scriptRun script d events)) (imageRun (imageBytes (wordsOf script)) d freshSequencer events budget (length log))
+    pick : (b : Bool) → suffices (scriptRun script d events) budget room ≡ b
+        → imageRun (imageBytes (wordsOf script)) d freshSequencer events budget room
+        ≡ cond b (ownEnd script (scriptRun script d events)) (imageRun (imageBytes (wordsOf script)) d freshSequencer events budget room)
     pick true h =
-        let room = leb-true _ _ (and-left _ (leb (scriptRun script d events .steps) budget) h) in
-        let steps = leb-true _ _ (and-right (leb (length (scriptRun script d events .world .logged)) (length log)) _ h) in
-        rw (← (words-counted script buffer accepted)) (whole-run script buffer d events budget log bytes accepted room steps)
-    pick false h =
-        ap (λ (image : List ℕ). imageRun image d freshSequencer events budget (length log)) (written-are script buffer accepted)
+        let lines = leb-true _ _ (and-left _ (leb (scriptRun script d events .steps) budget) h) in
+        let steps = leb-true _ _ (and-right (leb (length (scriptRun script d events .world .logged)) room) _ h) in
+        whole-run script d events budget room bytes z lines steps
+    pick false h = refl
 
 -- so its answer and its log are `compileAndRunResult` and `compileAndRunLog`
 pub words-run :
@@ -105,8 +108,9 @@ pub words-run :
 unfolding runAnswer logAfter compileAndRunResult compileAndRunLog
 words-run script buffer d events budget log bytes accepted =
     let f = same-refusal script buffer d events accepted in
-    let e = same-end script buffer d events budget log bytes accepted in
-    (rw (f, e), rw (f, e))
+    let w = written-are script buffer accepted in
+    let e = same-end script d events budget (length log) bytes (refuses-not script buffer accepted .0) in
+    (rw (f, w, e), rw (f, w, e))
 
 -- its words fit into the buffer
 pub words-fit :

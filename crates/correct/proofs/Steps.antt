@@ -1,5 +1,5 @@
 -- One step of the sequencer at each kind of word that the compiler writes: the word has no fault, and the step executes it,
--- if the place and the target are in the image.
+-- if the place and the target are in the image. Only a read can fault, when the log is full.
 use Prim.Native.Nat.{ℕ, zero, suc, _-_, _≤_, _<_}
 use mathlib.Core.Path.{_≡_, refl, _∙_}
 use mathlib.Core.Bool.{true, false, cond}
@@ -11,14 +11,14 @@ use lib.ListN.{length}
 use Rattle.compiler.specs.Words.{halt, word}
 use Rattle.record.specs.declared.Record.{Record}
 use Rattle.semantics.specs.World.{World, afterDelay, afterRead, sharesOne, afterTest, afterWrite}
-use Rattle.step.specs.Step.{Machine, execute, continues, halts, machine, nextStep, stepFrom, wordFault}
+use Rattle.step.specs.Step.{Machine, execute, continues, faults, halts, machine, nextStep, stepFrom, wordFault}
 use Rattle.step.specs.Word.{badWord, imageWords, wordAt}
 use Rattle.width.specs.Width.{fitsWidth, isWidth}
 
 not-zero : (n : ℕ) → eqb (suc n) 0 ≡ false
 not-zero n = ne-eqb (suc n) 0 (λ e. omega arith)
 
--- ---- no word that the compiler writes has a fault
+-- ---- no word that the compiler writes has a fault, except a read when the log is full
 module _ (words room used logged : ℕ) where
   write-good : (w p v : ℕ) → isWidth w ≡ true → fitsWidth w v ≡ true → wordFault words room used logged (word 1 w p 0 v) ≡ 0
   unfolding wordFault badWord
@@ -27,6 +27,10 @@ module _ (words room used logged : ℕ) where
   read-good : (w p : ℕ) → isWidth w ≡ true → logged < room → wordFault words room used logged (word 2 w p 0 0) ≡ 0
   unfolding wordFault badWord
   read-good w p hw l = rw (hw, lt-leb room logged l)
+
+  read-full : (w p : ℕ) → isWidth w ≡ true → room ≤ logged → wordFault words room used logged (word 2 w p 0 0) ≡ 24
+  unfolding wordFault badWord
+  read-full w p hw l = rw (hw, le-leb room logged l)
 
   delay-good : (n : ℕ) → n ≤ 65535 → wordFault words room used logged (word 3 0 0 0 n) ≡ 0
   unfolding wordFault badWord
@@ -55,11 +59,11 @@ module _ (words room used logged : ℕ) where
 
 -- ---- the step
 module _ (image : List ℕ) (room : ℕ) where
-  -- a word without a fault is executed, or halts
+  -- a word faults or, without a fault, is executed or halts
   takes :
-      (r : Record) (m : Machine) → m .place < imageWords image → wordAt image (m .place) ≡ r
-      → wordFault (imageWords image) room (length (m .counters)) (length (m .world .logged)) r ≡ 0
-      → nextStep image room m ≡ stepFrom r 0 m
+      {fault : ℕ} (r : Record) (m : Machine) → m .place < imageWords image → wordAt image (m .place) ≡ r
+      → wordFault (imageWords image) room (length (m .counters)) (length (m .world .logged)) r ≡ fault
+      → nextStep image room m ≡ stepFrom r fault m
   unfolding nextStep
   takes r m l e h = rw (lt-leb (imageWords image) (m .place) l, e, h)
 
@@ -74,6 +78,10 @@ module _ (image : List ℕ) (room : ℕ) where
         → nextStep image room (machine place cs world) ≡ continues (machine (suc place) cs (afterRead p w world))
     unfolding execute
     step-read w p e hw l = takes (word 2 w p 0 0) (machine place cs world) inside e (read-good _ _ _ _ w p hw l)
+
+    pub step-full : (w p : ℕ) → wordAt image place ≡ word 2 w p 0 0 → isWidth w ≡ true → room ≤ length (world .logged)
+        → nextStep image room (machine place cs world) ≡ faults 24
+    step-full w p e hw l = takes (word 2 w p 0 0) (machine place cs world) inside e (read-full _ _ _ _ w p hw l)
 
     pub step-delay : (n : ℕ) → wordAt image place ≡ word 3 0 0 0 n → n ≤ 65535
         → nextStep image room (machine place cs world) ≡ continues (machine (suc place) cs (afterDelay n world))

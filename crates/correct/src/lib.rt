@@ -1,5 +1,5 @@
 // Compiles a script and runs it, in one call: `compile_and_run`. The programs `trace` and `replay` use it.
-// Besides, this crate has the top theorem, `CompilerCorrect`, and the cases P1 to P11 (specs/, proofs/).
+// Besides, this crate has the theorems `CompilerCorrect` and `InterpreterCorrect`, and the cases P1 to P11 (specs/, proofs/).
 // See docs/CHIP.md, "Runs" and "What a script means".
 use device::Device;
 use record::Record;

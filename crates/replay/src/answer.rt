@@ -3,6 +3,7 @@ use crate::session::Session;
 use device::Device;
 use device::Outputs;
 use device::single::AccessReply;
+use interpreter::InterpretResult;
 use libc::STDOUT_FILENO;
 use sequencer::RunResult;
 use step::COUNTERS;
@@ -201,27 +202,38 @@ fn put_log(line: &mut [u8], at: usize, log: &[u64], size: usize) -> usize {
     put_entries(line, next, log, size)
 }
 
-// The sequencer and the device after a run, and the first `size` entries of the log.
+// The device after a run, and the first `size` entries of the log.
+fn put_device(line: &mut [u8], at: usize, device: Device, log: &[u64], size: usize) -> usize {
+    let a = digits::put(line, at, b' ');
+    let b = put_state(line, a, device);
+    put_log(line, b, log, size)
+}
+
+// The sequencer after a run, the device and the log.
 fn put_session(line: &mut [u8], at: usize, session: Session, log: &[u64], size: usize) -> usize {
     let device = session.device;
     let sequencer = session.sequencer;
     let a = put_sequencer(line, at, sequencer);
-    let b = digits::put(line, a, b' ');
-    let c = put_state(line, b, device);
-    put_log(line, c, log, size)
+    put_device(line, a, device, log, size)
 }
 
-fn put_ended(line: &mut [u8], result: RunResult) -> usize {
+fn put_ended(line: &mut [u8], outcome: u32, steps: u32, taken: usize, logged: usize) -> usize {
     let a = digits::put_text(line, 0, b"ENDED");
-    let b = put_next(line, a, result.outcome);
-    let c = put_next(line, b, result.steps);
-    let d = put_next(line, c, short(result.taken));
-    put_next(line, d, short(result.logged))
+    let b = put_next(line, a, outcome);
+    let c = put_next(line, b, steps);
+    let d = put_next(line, c, short(taken));
+    put_next(line, d, short(logged))
 }
 
 pub fn run_ended(result: RunResult, session: Session, log: &[u64], size: usize) {
     let mut line = [0u8; RUN_LINE];
-    let a = put_ended(&mut line, result);
+    let a = put_ended(
+        &mut line,
+        result.outcome,
+        result.steps,
+        result.taken,
+        result.logged,
+    );
     let b = put_session(&mut line, a, session, log, size);
     print(&mut line, b);
 }
@@ -230,5 +242,27 @@ pub fn run_refused(number: u32, place: u32, session: Session, log: &[u64], size:
     let mut line = [0u8; RUN_LINE];
     let a = put_refusal(&mut line, number, place);
     let b = put_session(&mut line, a, session, log, size);
+    print(&mut line, b);
+}
+
+fn put_interpreted(line: &mut [u8], result: InterpretResult) -> usize {
+    if sequencer::is_refusal(result.outcome) {
+        return put_refusal(line, result.outcome, result.place);
+    }
+    put_ended(
+        line,
+        result.outcome,
+        result.steps,
+        result.taken,
+        result.logged,
+    )
+}
+
+// The answer to a script that was interpreted: it has no sequencer.
+pub fn interpreted(result: InterpretResult, log: &[u64], size: usize) {
+    let device = result.device;
+    let mut line = [0u8; RUN_LINE];
+    let a = put_interpreted(&mut line, result);
+    let b = put_device(&mut line, a, device, log, size);
     print(&mut line, b);
 }

@@ -185,11 +185,14 @@ pub fn run(session: Session, line: &[u8]) -> Session {
     if kind == b'Q' {
         return runs::set_sequencer(session, line);
     }
-    if kind == b'X' {
-        return runs::run(session, line, false);
+    if kind == runs::RUN {
+        return runs::run(session, line, kind);
     }
-    if kind == b'T' {
-        return runs::run(session, line, true);
+    if kind == runs::COMPILE_AND_RUN {
+        return runs::run(session, line, kind);
+    }
+    if kind == runs::INTERPRET {
+        return runs::run(session, line, kind);
     }
     let device = session.device;
     let next = on_device(device, line, kind);

@@ -1,8 +1,9 @@
-// The commands `Q`, which sets the sequencer, `X`, which runs an image, and `T`, which compiles and runs a script.
+// The commands `Q`, which sets the sequencer, `X`, which runs an image, `T`, which compiles and runs a script, and `N`, which interprets one.
 // See docs/CASES.md, "Runs".
 use crate::answer;
 use crate::session::Session;
 use crate::strings;
+use interpreter::InterpretResult;
 use sequencer::RunResult;
 use step::Sequencer;
 
@@ -69,10 +70,17 @@ pub fn set_sequencer(session: Session, line: &[u8]) -> Session {
 
 // ---- the runs
 
-// The parts of a command: a script or an image, the budget, the length of the log, and the index and the
+// The letters of the commands.
+pub const RUN: u8 = b'X';
+
+pub const COMPILE_AND_RUN: u8 = b'T';
+
+pub const INTERPRET: u8 = b'N';
+
+// The parts of a command: its letter, the budget, the length of the log, and the index and the
 // number of the events and the bytes in the line.
 struct RunRequest {
-    compiles: bool,
+    letter: u8,
     budget: u32,
     size: usize,
     events_at: usize,
@@ -109,8 +117,15 @@ fn answered(session: Session, result: RunResult, log: &[u64], size: usize) -> Se
     next
 }
 
-// Runs an image on the device and the sequencer of the session, or a script on its device. A command that is too large for
-// the buffers of `replay` is answered `UNREAD`.
+// A refusal returns the device unchanged.
+fn interpreted(session: Session, result: InterpretResult, log: &[u64], size: usize) -> Session {
+    let device = result.device;
+    answer::interpreted(result, log, size);
+    session.with_device(device)
+}
+
+// Runs an image on the device and the sequencer of the session, or compiles or interprets a script on its device. A command that is too large
+// for the buffers of `replay` is answered `UNREAD`.
 fn run_within(
     session: Session,
     request: RunRequest,
@@ -131,7 +146,17 @@ fn run_within(
         return unread(session);
     }
     let device = session.device;
-    if request.compiles {
+    if request.letter == INTERPRET {
+        let result = interpreter::interpret(
+            &bytes[..count],
+            device,
+            &events[..number],
+            request.budget,
+            &mut log[..size],
+        );
+        return interpreted(session, result, log, size);
+    }
+    if request.letter == COMPILE_AND_RUN {
         let result = correct::compile_and_run(
             &bytes[..count],
             device,
@@ -173,8 +198,8 @@ fn run_request(session: Session, line: &[u8], request: RunRequest) -> Session {
     run_on(session, request, &bytes, &events, &mut log)
 }
 
-// X budget size events image, T budget size events script
-pub fn run(session: Session, line: &[u8], compiles: bool) -> Session {
+// X budget size events image, T budget size events script, N budget size events script
+pub fn run(session: Session, line: &[u8], letter: u8) -> Session {
     let budget = digits::next_number(line, 1);
     if !budget.ok {
         return unread(session);
@@ -198,7 +223,7 @@ pub fn run(session: Session, line: &[u8], compiles: bool) -> Session {
         return unread(session);
     }
     let request = RunRequest {
-        compiles,
+        letter,
         budget: budget.value,
         size: size.value as usize,
         events_at: events.at,

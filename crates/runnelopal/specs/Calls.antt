@@ -1,4 +1,4 @@
--- The numbers that the exported functions put into the slice `answer`, and the run on a fresh device. What an access or an event returns
+-- The numbers that the exported functions put into the slice `answer`, and the runs on a fresh device. What an access or an event returns
 -- and leaves in the saved state is in `state/specs/Call.antt`. See bindings/c/runnelopal.h.
 use Prim.Native.Nat.{ℕ, suc}
 use mathlib.Core.Bool.{Bool, cond}
@@ -10,6 +10,8 @@ use Rattle.device.specs.declared.Device.{Device}
 use Rattle.device.specs.declared.Outputs.{Outputs}
 use Rattle.device.specs.declared.single.AccessReply.{AccessReply}
 use Rattle.device.specs.declared.single.EventReply.{EventReply}
+use Rattle.interpreter.specs.Interpret.{interpretResult}
+use Rattle.interpreter.specs.declared.InterpretResult.{InterpretResult}
 use Rattle.sequencer.specs.Run.{isRefusal, runAnswer}
 use Rattle.step.specs.Sequencer.{freshSequencer}
 use Rattle.sequencer.specs.declared.RunResult.{RunResult}
@@ -25,9 +27,16 @@ numbered k (n ∷ ns) answer = numbered (suc k) ns (set answer k n)
 abbrev pub freshRun : List ℕ → List ℕ → ℕ → List ℕ → RunResult
 freshRun image events budget log = runAnswer image freshDevice freshSequencer events budget log
 
--- the numbers in `answer` after a run; the same for outputs, accesses and events below
+-- the numbers in `answer` after a run; the same for interpreted scripts, outputs, accesses and events below
 abbrev pub runNumbers : RunResult → List ℕ
 runNumbers r = r .place ∷ r .steps ∷ r .taken ∷ r .logged ∷ r .sequencer .place ∷ []
+
+-- a script, interpreted on a fresh device
+abbrev pub freshInterpret : List ℕ → List ℕ → ℕ → List ℕ → InterpretResult
+freshInterpret script events budget log = interpretResult script freshDevice events budget log
+
+abbrev pub interpretNumbers : InterpretResult → List ℕ
+interpretNumbers r = r .place ∷ r .steps ∷ r .taken ∷ r .logged ∷ []
 
 -- a refused run leaves the state unchanged
 abbrev pub runSavedUnlessRefused : ℕ → Device → List ℕ → List ℕ

@@ -6,6 +6,7 @@ use device::Device;
 use device::Outputs;
 use device::single::AccessReply;
 use device::single::EventReply;
+use interpreter::InterpretResult;
 use sequencer::RunResult;
 use step::Sequencer;
 ghost use mathlib.Core.Path.{_≡_};
@@ -14,6 +15,7 @@ ghost use Prim.Native.Nat.{_<_};
 ghost use lib.ListN.{length, set};
 ghost use Rattle.compiler.specs.Compile.{compileResult, imageAfter};
 ghost use Rattle.device.specs.Device.{freshDevice};
+ghost use Rattle.interpreter.specs.Interpret.{interpretLog};
 ghost use Rattle.sequencer.specs.Run.{logAfter};
 ghost use Rattle.step.specs.Sequencer.{freshSequencer};
 ghost use Rattle.little_endian.specs.Bytes.{flagByte};
@@ -25,6 +27,8 @@ ghost use Rattle.runnelopal.specs.Calls.{
   outputNumbers,
   freshRun,
   runNumbers,
+  freshInterpret,
+  interpretNumbers,
   accessOf,
   accessNumbers,
   eventNumbers,
@@ -113,6 +117,38 @@ pub extern "C" fn runnelopal_run(
     let next = r.device;
     save_run_unless_refused(state, r.outcome, next);
     put_run(answer, r);
+    r.outcome
+}
+
+fn put_interpreted(answer: &mut [u64], r: InterpretResult)
+    ensures { λ _. ⌜ now (answer .exit) ≡ numbered 0 (interpretNumbers r) (now (answer .entry)) ⌝ }
+{
+    put(answer, 0, r.place as u64);
+    put(answer, 1, r.steps as u64);
+    put(answer, 2, r.taken as u64);
+    put(answer, 3, r.logged as u64);
+}
+
+// Interprets a script on a fresh device, without an image, and saves the device into `state` if that has the length of a state. In `answer`:
+// the place of a refusal, the steps, the events taken, the values logged.
+#[no_mangle]
+pub extern "C" fn runnelopal_interpret(
+    script: &[u8],
+    events: &[u32],
+    budget: u32,
+    log: &mut [u64],
+    state: &mut [u8],
+    answer: &mut [u64],
+) -> u32
+    ensures { λ r. ⌜ (r ≡ freshInterpret (now (script .entry)) (now (events .entry)) budget (now (log .entry)) .outcome) × (now (log .exit) ≡ interpretLog (now (script .entry)) freshDevice (now (events .entry)) budget (now (log .entry))) ⌝ }
+    ensures { λ _. ⌜ now (state .exit) ≡ runSavedUnlessRefused (freshInterpret (now (script .entry)) (now (events .entry)) budget (now (log .entry)) .outcome) (freshInterpret (now (script .entry)) (now (events .entry)) budget (now (log .entry)) .device) (now (state .entry)) ⌝ }
+    ensures { λ _. ⌜ now (answer .exit) ≡ numbered 0 (interpretNumbers (freshInterpret (now (script .entry)) (now (events .entry)) budget (now (log .entry)))) (now (answer .entry)) ⌝ }
+{
+    let device = Device::fresh();
+    let r = interpreter::interpret(script, device, events, budget, log);
+    let next = r.device;
+    save_run_unless_refused(state, r.outcome, next);
+    put_interpreted(answer, r);
     r.outcome
 }
 

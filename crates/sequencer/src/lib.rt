@@ -80,7 +80,8 @@ fn bad_state(device: Device, sequencer: Sequencer) -> bool
     true
 }
 
-fn events_refusal(events: &[u32]) -> Refusal
+// Refusal 12. `interpreter` calls it too.
+pub fn events_refusal(events: &[u32]) -> Refusal
     ensures { λ r. ⌜ r ≡ eventsRefusal (now (events .entry)) ⌝ }
 {
     if MOST_EVENTS < events.len() {

@@ -168,11 +168,11 @@ readTo x r t = record {
   logged = x .logged + 1;
 }
 
-one-more : (entries : List ℕ) (e : ℕ) → length (entries ++ (e ∷ [])) ≡ suc (length entries)
+pub one-more : (entries : List ℕ) (e : ℕ) → length (entries ++ (e ∷ [])) ≡ suc (length entries)
 one-more entries e = let l = length-append entries (e ∷ []) in omega (arith, l)
 
 -- storing an entry at the number of entries appends it to the filled part of the log
-logs :
+pub logs :
     (entries lent log : List ℕ) (n new : ℕ) → n ≡ length entries → log ≡ entries ++ drop (length entries) lent → n < length log
     → set log n new ≡ (entries ++ (new ∷ [])) ++ drop (length (entries ++ (new ∷ []))) lent
 logs entries lent log n new e h l =

@@ -1,5 +1,5 @@
 // What one word does when it neither faults nor halts: its access, and its effect on the place, the loop counters and the
-// log. The loop of `sequencer` calls these functions and makes the access itself. See docs/CHIP.md, "Words" and "Runs".
+// log. The loop of `sequencer` calls these functions and makes the access itself. `interpreter` uses `access_of` and `events_taken`. See docs/CHIP.md, "Words" and "Runs".
 use crate::COUNTERS;
 use access::Access;
 use record::Record;
@@ -23,7 +23,7 @@ pub struct Position {
 }
 
 // The number of events taken, after the next one if the list has one.
-fn events_taken(events: &[u32], taken: usize) -> usize
+pub fn events_taken(events: &[u32], taken: usize) -> usize
     requires { ⌜ taken ≤ length (now events) ⌝ }
     ensures { λ r. ⌜ (r ≤ length (now (events .entry))) × (drop r (now (events .entry)) ≡ eventsAfter (drop taken (now (events .entry)))) ⌝ }
 {

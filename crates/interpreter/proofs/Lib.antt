@@ -1,0 +1,9 @@
+pub mod Adding
+pub mod Filling
+pub mod Refusing
+pub mod Tabled
+pub mod Ready
+pub mod Worlds
+pub mod Frames
+pub mod Walking
+pub mod Passing

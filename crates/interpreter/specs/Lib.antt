@@ -1,0 +1,4 @@
+pub mod Walk
+pub mod Interpret
+pub mod Partners
+pub mod State
