@@ -1,4 +1,5 @@
-//! The processor time of this thread. Other programs on the machine disturb it less than wall-clock time.
+//! The processor time of this thread, and the name of the processor. Other programs on the machine disturb this time less than wall-clock
+//! time.
 
 use std::ffi::c_int;
 
@@ -22,4 +23,14 @@ pub fn now() -> u64 {
     let failed = unsafe { clock_gettime(THREAD, &mut time) };
     assert_eq!(failed, 0, "the thread has a clock");
     time.seconds as u64 * 1_000_000_000 + time.nanoseconds as u64
+}
+
+/// The processor as Linux names it: ratios differ from one processor to another.
+pub fn processor() -> String {
+    let text = std::fs::read_to_string("/proc/cpuinfo").unwrap_or_default();
+    let field = |name: &str| {
+        let value = |line: &str| line.split_once(':').filter(|(key, _)| key.trim() == name).map(|(_, value)| value.trim().to_string());
+        text.lines().find_map(value).unwrap_or_else(|| "unknown".to_string())
+    };
+    format!("{}, family {}, model {}", field("model name"), field("cpu family"), field("model"))
 }

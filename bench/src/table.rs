@@ -51,6 +51,7 @@ fn head(sides: usize) -> &'static str {
 
 pub fn print(part: &str) -> Result<(), String> {
     println!("Processor time: {REPETITIONS} repetitions for each program, in turns. Medians, and the ratio of the least times.");
+    println!("Processor: {}.", clock::processor());
     let mut group = "";
     let mut seen = false;
     for row in rows(Size::Full) {

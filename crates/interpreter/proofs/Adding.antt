@@ -8,13 +8,13 @@ use native.Mathlib.Omega.{arith}
 use borrow.Author.Tests.{ne-eqb}
 use lib.ListN.{getD, length-set, set}
 use lib.Seq.{getD-set-other, getD-set-same}
-use Rattle.lists.proofs.Stack.{stack-push}
+use Rattle.lists.proofs.Stack.{stack-push, stack-set-top, stack-top}
 use Rattle.lists.specs.Stack.{stackOf}
 use Rattle.script.specs.Refusals.{innermost, outer}
-use Rattle.interpreter.specs.Partners.{ClosersArray, WithRecord}
+use Rattle.interpreter.specs.Partners.{ClosersArray, RoomFor, WithRecord}
 
 -- a place stored in the array is that of a record
-pub closer-stored : (xs : List ℕ) (i v : ℕ) → ClosersArray xs → i < 1024 → v < 1024 → ClosersArray (set xs i v)
+pub closer-stored : (xs : List ℕ) (i v : ℕ) → ClosersArray xs → i < 16 → v < 1024 → ClosersArray (set xs i v)
 closer-stored xs i v h l m = record {
   sized = length-set xs i v ∙ h .sized;
   small = λ k. pick k (ℕ-discrete k i);
@@ -24,62 +24,38 @@ closer-stored xs i v h l m = record {
     pick k (yes e) = rw (e, getD-set-same xs i v 0 (omega (arith, h .sized))) m
     pick k (no n) = rw (getD-set-other xs i k v 0 n) (h .small k)
 
-pub outer-stack : (n : ℕ) (xs : List ℕ) → stackOf (n - 1) xs ≡ outer (stackOf n xs)
-outer-stack zero xs = refl
-outer-stack (suc n) xs = let e : suc n - 1 ≡ n = omega arith in rw e
+-- the innermost of them, and those around it
+pub top : (n : ℕ) (xs : List ℕ) → 0 < n → (innermost (stackOf n xs) ≡ getD xs (n - 1) 0) × (outer (stackOf n xs) ≡ stackOf (n - 1) xs)
+top n xs l = (rw (stack-top n xs l), rw (stack-top n xs l))
 
-pub innermost-small : (n : ℕ) (xs : List ℕ) → ClosersArray xs → innermost (stackOf n xs) < 1024
-innermost-small zero xs h = omega arith
-innermost-small (suc n) xs h = h .small n
-
-module _ (kind place depth : ℕ) (table closers : List ℕ) (h : ClosersArray closers) (near : place < 1024) (few : depth < 1024) where
+module _ (kind place depth : ℕ) (table closers : List ℕ) (h : ClosersArray closers) (near : place < 1024) (room : RoomFor kind depth) where
   pub added-end : kind ≡ 7 → WithRecord kind place table closers depth table (set closers depth place) (depth + 1)
   added-end k = record {
-    array = closer-stored closers depth place h few near;
-    few = omega arith;
-    same = rw (k, stack-push depth closers place (omega (arith, h .sized)));
+    array = closer-stored closers depth place h (room .fewer k) near;
+    same = rw (k, stack-push depth closers place (omega (arith, room .fewer k, h .sized)));
   }
 
-  module _ (closer around : ℕ) (c : closer ≡ innermost (stackOf depth closers)) (a : around ≡ depth - 1) where
+  module _ (other : kind ≡ 7 → ⊥) (closer : ℕ) (c : closer ≡ getD closers (depth - 1) 0) where
+    inner : suc (innermost (stackOf depth closers)) ≡ closer + 1
+    inner = rw (top depth closers (room .some other) .0, sym c, add-one closer)
+
     pub added-else : kind ≡ 6
-        → WithRecord kind place table closers depth (set table place (closer + 1)) (set closers around place) (around + 1)
+        → WithRecord kind place table closers depth (set table place (closer + 1)) (set closers (depth - 1) place) depth
     added-else k = record {
-      array = closer-stored closers around place h (omega arith) near;
-      few = omega arith;
-      same =
-          rw (
-            k,
-            stack-push around closers place (omega (arith, h .sized)),
-            add-one closer,
-            sym c,
-            ap (λ (n : ℕ). stackOf n closers) a
-                ∙ outer-stack depth closers,
-          );
+      array = closer-stored closers (depth - 1) place h (omega (arith, room .few)) near;
+      same = rw (k, stack-set-top depth closers place (room .some other) (omega (arith, room .few, h .sized)), inner, top depth closers (room .some other) .1);
     }
 
     pub added-repeat : kind ≡ 4
-        → WithRecord kind place table closers depth (set (set table place (closer + 1)) closer (place + 1)) closers around
+        → WithRecord kind place table closers depth (set (set table place (closer + 1)) closer (place + 1)) closers (depth - 1)
     added-repeat k = record {
       array = h;
-      few = omega arith;
-      same =
-          rw
-          (k, add-one closer, add-one place, sym c, ap (λ (n : ℕ). stackOf n closers) a ∙ outer-stack depth closers);
+      same = rw (k, add-one place, inner, top depth closers (room .some other) .0, sym c, top depth closers (room .some other) .1);
     }
 
-    pub added-if : (kind ≡ 7 → ⊥) → (kind ≡ 6 → ⊥) → (kind ≡ 4 → ⊥)
-        → WithRecord kind place table closers depth (set table place (closer + 1)) closers around
-    added-if p q r = record {
+    pub added-if : (kind ≡ 6 → ⊥) → (kind ≡ 4 → ⊥)
+        → WithRecord kind place table closers depth (set table place (closer + 1)) closers (depth - 1)
+    added-if q r = record {
       array = h;
-      few = omega arith;
-      same =
-          rw (
-            ne-eqb kind 7 p,
-            ne-eqb kind 6 q,
-            ne-eqb kind 4 r,
-            add-one closer,
-            sym c,
-            ap (λ (n : ℕ). stackOf n closers) a
-                ∙ outer-stack depth closers,
-          );
+      same = rw (ne-eqb kind 7 other, ne-eqb kind 6 q, ne-eqb kind 4 r, inner, top depth closers (room .some other) .1);
     }

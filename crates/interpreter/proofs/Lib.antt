@@ -1,3 +1,4 @@
+pub mod Waiting
 pub mod Adding
 pub mod Filling
 pub mod Refusing

@@ -11,7 +11,7 @@ use Rattle.record.specs.Record.{mostRecords}
 use Rattle.record.specs.declared.Record.{Record}
 use Rattle.script.specs.Kind as kind
 use Rattle.script.specs.Records.{recordsOf}
-use Rattle.script.specs.Refusals.{innermost, outer}
+use Rattle.script.specs.Refusals.{innermost, mostBlocks, outer}
 
 -- the table, and the places of the ends and elses whose blocks are opened by an earlier record, innermost first
 pub record Partners : Type 0 where
@@ -42,13 +42,18 @@ unfoldable pub scriptPartners : List ℕ → List ℕ
 scriptPartners script = partnersFrom (recordsOf script) 0 .table
 
 -- ---- the arrays of the code
--- the array of the waiting ends and elses has room for every record, and the places in it are those of records
+-- the array of the waiting ends and elses has room for one of every open block, and the places in it are those of records
 pub record ClosersArray (closers : List ℕ) : Type 0 where
-  pub sized : length closers ≡ mostRecords
+  pub sized : length closers ≡ mostBlocks
   pub small : (k : ℕ) → getD closers k 0 < mostRecords
+
+-- a record of this kind can be added while `depth` ends and elses wait: there is room for an end, and every other record finds one
+pub record RoomFor (k depth : ℕ) : Type 0 where
+  pub few : depth ≤ mostBlocks
+  pub fewer : k ≡ kind.end → depth < mostBlocks
+  pub some : (k ≡ kind.end → ⊥) → 0 < depth
 
 -- the arrays after a record are those of `withRecord`
 pub record WithRecord (kind place : ℕ) (table closers : List ℕ) (depth : ℕ) (table' closers' : List ℕ) (depth' : ℕ) : Type 0 where
   pub array : ClosersArray closers'
-  pub few : depth' ≤ depth + 1
   pub same : partners table' (stackOf depth' closers') ≡ withRecord kind place (partners table (stackOf depth closers))

@@ -8,60 +8,37 @@
 //   end of an if      0: the walk goes on with the next record
 use record::Record;
 ghost use mathlib.Core.Path.{_≡_};
-ghost use Prim.Native.Nat.{_-_, _≤_, _<_, _/_};
+ghost use Prim.Native.Nat.{_<_, _/_};
 ghost use lib.ListN.{length, replicate};
-ghost use Rattle.lists.specs.Stack.{stackOf};
 ghost use Rattle.record.specs.Record.{mostRecords, recordSize};
-ghost use Rattle.script.specs.Refusals.{innermost};
-ghost use Rattle.interpreter.specs.Partners.{ClosersArray, WithRecord, scriptPartners};
+ghost use Rattle.script.specs.Refusals.{scriptRefusal};
+ghost use Rattle.interpreter.specs.Partners.{ClosersArray, RoomFor, WithRecord, scriptPartners};
 
-// A place for every record of the longest script. The list of waiting ends and elses is as long, so that its bound needs no argument about
-// nesting.
+// A place for every record of the longest script.
 pub const TABLE_SIZE: usize = Record::MOST;
-
-// The innermost end or else that waits for the record that opens its block, or 0 if there is none.
-fn innermost(closers: &[usize; TABLE_SIZE], depth: usize) -> usize
-    requires { ⌜ depth ≤ mostRecords ⌝ }
-    ensures { λ r. ⌜ r ≡ innermost (stackOf depth (now (closers .entry))) ⌝ }
-{
-    if depth == 0 {
-        return 0;
-    }
-    let at = depth - 1;
-    closers[at]
-}
-
-// One less, and 0 for 0.
-fn outer(depth: usize) -> usize
-    ensures { λ r. ⌜ r ≡ depth - 1 ⌝ }
-{
-    if depth == 0 {
-        return 0;
-    }
-    depth - 1
-}
 
 // Adds the record at a place. Returns the number of waiting ends and elses.
 fn add_record(
     partners: &mut [usize; TABLE_SIZE],
-    closers: &mut [usize; TABLE_SIZE],
+    closers: &mut [usize; script::MOST_BLOCKS],
     depth: usize,
     kind: u32,
     place: usize,
 ) -> usize
-    requires { ⌜ (place < mostRecords) × (depth < mostRecords) × ClosersArray (now closers) ⌝ }
+    requires { ⌜ (place < mostRecords) × RoomFor kind depth × ClosersArray (now closers) ⌝ }
     ensures { λ r. ⌜ WithRecord kind place (now (partners .entry)) (now (closers .entry)) depth (now (partners .exit)) (now (closers .exit)) r ⌝ }
 {
     if kind == script::END {
         closers[depth] = place;
         return depth + 1;
     }
-    let closer = innermost(closers, depth);
-    let around = outer(depth);
+    // The innermost waiting end or else closes this block.
+    let around = depth - 1;
+    let closer = closers[around];
     partners[place] = closer + 1;
     if kind == script::ELSE {
         closers[around] = place;
-        return around + 1;
+        return depth;
     }
     if kind == script::REPEAT {
         partners[closer] = place + 1;
@@ -69,12 +46,13 @@ fn add_record(
     around
 }
 
-// Fills the table, which is 0 before.
+// Fills the table of an accepted script, which is 0 before.
 pub fn fill(script: &[u8], count: usize, partners: &mut [usize; TABLE_SIZE])
-    requires { ⌜ (count ≤ mostRecords) × (count ≡ length (now script) / recordSize) × (now partners ≡ replicate mostRecords 0) ⌝ }
+    requires { ⌜ (scriptRefusal (now script) .number ≡ 0) × (count ≡ length (now script) / recordSize) × (now partners ≡ replicate mostRecords 0) ⌝ }
     ensures { λ _. ⌜ now (partners .exit) ≡ scriptPartners (now (script .entry)) ⌝ }
 {
-    let mut closers: [usize; TABLE_SIZE] = [0; TABLE_SIZE];
+    // One end or else waits for each open block.
+    let mut closers: [usize; script::MOST_BLOCKS] = [0; script::MOST_BLOCKS];
     let mut depth: usize = 0;
     let mut k: usize = count;
     while 0 < k {

@@ -241,8 +241,7 @@ pub fn walk_script(
             // The next event, if there is one, is applied before the access.
             let taken = position.taken;
             if taken < events.len() {
-                let arrived = last.device.apply_event(events[taken]);
-                last.device = arrived;
+                last.device = last.device.apply_event(events[taken]);
             }
             last = last.device.access(execute::access_of(r));
             position = position.apply_answer(
@@ -255,8 +254,7 @@ pub fn walk_script(
             );
             steps = steps + 1;
         } else if r.kind == script::DELAY {
-            let delayed = last.device.apply_event(device::event::tick_event(r.value));
-            last.device = delayed;
+            last.device = last.device.apply_event(device::event::tick_event(r.value));
             position.place = place + 1;
             steps = steps + 1;
         } else {

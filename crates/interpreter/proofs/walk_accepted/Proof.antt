@@ -1,12 +1,11 @@
 -- `walk_accepted` fills the table of an accepted script and walks through the script.
 use mathlib.Core.Path.{refl}
-use Rattle.interpreter.proofs.Ready.{script-ready}
 use borrow.Author.Needs.{needs}
 use Rattle.interpreter.proofs.walk_accepted.Statement.{statement}
 use Rattle.interpreter.proofs.walk_accepted.Tie as tie
 
 fill-requires : tie.Need-fill-requires
-fill-requires c κs = let e = c .before .before .before .before in (script-ready _ (e .pre) .few, refl, refl)
+fill-requires c κs = let e = c .before .before .before .before in (e .pre, refl, refl)
 
 walk-script-requires : tie.Need-walk-script-requires
 walk-script-requires c κs = (c .before .before .before .before .before .before .before .pre, c .before .before .fill .ensures)

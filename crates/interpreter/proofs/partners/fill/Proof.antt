@@ -1,6 +1,7 @@
 -- `fill` makes the table of the script: each record keeps the loop invariant `Filling`.
 use native.Mathlib.Omega.{arith}
-use Rattle.interpreter.proofs.Filling.{Filling, adds, begins, ends, passes}
+use Rattle.script.proofs.Records.{counts}
+use Rattle.interpreter.proofs.Filling.{Filling, adds, begins, ends, passes, room}
 use Rattle.interpreter.proofs.partners.fill.Statement.{statement}
 use Rattle.interpreter.proofs.partners.fill.Tie as tie
 
@@ -24,8 +25,13 @@ kind-at-requires c κs = omega arith
 
 add-record-requires : tie.Need-add-record-requires Inv-loop μ-loop
 add-record-requires c κs =
-    let l = c .before .before .before .before .before .loop in
-    (omega arith, omega (arith, l .inv .few), l .inv .array)
+    let t = c .before .before in
+    let l = t .before .before .before .loop in
+    let p = t .before .before .before .before .before .pre in (
+      omega (arith, l .inv .within, counts _ _ (p .1) (p .0) .few),
+      room _ (l .inv) (p .0) (p .1) (t .before .before .loop-test .taken) (t .before .kind-at .ensures) (t .if1 .taken),
+      l .inv .array,
+    )
 
 loop-less : tie.Need-loop-less Inv-loop μ-loop
 loop-less c = omega arith
