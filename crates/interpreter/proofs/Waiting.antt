@@ -31,7 +31,7 @@ as-many (elses {bs} {rs} a) at =
     ap suc (outer-length (length (numbers bs)) (partnersFrom rs (suc at) .closers) (as-many a (suc at)))
 as-many (ends a) at = ap suc (as-many a (suc at))
 
--- one waits for a record that opens or parts a block
+-- one waits for the first record if that opens or parts a block
 abbrev Opens : List Record → ℕ → Type 0
 Opens [] at = Unit {0}
 Opens (r ∷ rs) at = 3 < r .kind → (r .kind ≡ 7 → ⊥) → 0 < length (partnersFrom rs (suc at) .closers)
@@ -79,10 +79,12 @@ module _ (script : List ℕ) (h : scriptRefusal script .number ≡ 0) where
       let next = rest (i .accepted) (i .few) in
       rw (from-here script (recordCount script) k (omega arith), add-one k) at next
 
+  -- at most 16 wait before any place
   pub few-waiting : (k : ℕ) → k ≤ recordCount script
       → length (partnersFrom (recordsFrom (recordCount script - k) k script) k .closers) ≤ 16
   few-waiting k l = let i = within k l in omega (arith, i .few, as-many (i .accepted) k)
 
+  -- and one waits for each record that opens or parts a block
   pub some-waiting : (k : ℕ) → k < recordCount script → 3 < recordAt script (12 * k) .kind → (recordAt script (12 * k) .kind ≡ 7 → ⊥)
       → 0 < length (partnersFrom (recordsFrom (recordCount script - suc k) (suc k) script) (suc k) .closers)
   some-waiting k l =
