@@ -200,8 +200,8 @@ fn walk_result(outcome: u32, steps: u32, device: Device, position: Position) -> 
     }
 }
 
-// Walks through an accepted script until the walk ends. The device and the answer to its last access are one local, `last`, so that each access
-// copies the device only once.
+// Walks through an accepted script until the walk ends. The device and the answer to its last access are one local, `last`. An access, an event
+// and a delay store the next device there in one statement: another local in between would be copied, which takes time (bench/README.md).
 pub fn walk_script(
     script: &[u8],
     partners: &[usize; TABLE_SIZE],

@@ -1,5 +1,6 @@
 // What one word does when it neither faults nor halts: its access, and its effect on the place, the loop counters and the
-// log. The loop of `sequencer` calls these functions and makes the access itself. `interpreter` uses `access_of` and `events_taken`. See docs/CHIP.md, "Words" and "Runs".
+// log. The loop of `sequencer` calls these functions and makes the access itself. `interpreter` uses `access_of` and
+// `events_taken`. See docs/CHIP.md, "Words" and "Runs".
 use crate::COUNTERS;
 use access::Access;
 use record::Record;
