@@ -14,6 +14,16 @@ fn repetition(row: &Row, side: Side) -> (u64, Done, Buffers) {
     (clock::now() - before, done, buffers)
 }
 
+/// A repetition that is called from so many frames of this function. Where the stack lies in its page changes the time of some calls by half,
+/// so each repetition is made at another place: ten of them cover a page.
+#[inline(never)]
+fn repetition_at(place: usize, row: &Row, side: Side) -> (u64, Done, Buffers) {
+    let frame = std::hint::black_box([0u8; 96]);
+    let result = if place == 0 { repetition(row, side) } else { repetition_at(place - 1, row, side) };
+    std::hint::black_box(&frame);
+    result
+}
+
 /// The times of each program, sorted, measured in turns, with the program that goes first changing. An error if their results differ.
 fn times(row: &Row) -> Result<(Vec<Vec<u64>>, Done), String> {
     let sides = row.work.sides();
@@ -23,7 +33,7 @@ fn times(row: &Row) -> Result<(Vec<Vec<u64>>, Done), String> {
         let mut previous: Option<(Done, Buffers)> = None;
         for turn in 0..sides.len() {
             let side = (k + turn) % sides.len();
-            let (time, done, buffers) = repetition(row, sides[side]);
+            let (time, done, buffers) = repetition_at(k, row, sides[side]);
             if previous.as_ref().is_some_and(|previous| previous.0 != done || previous.1 != buffers) {
                 return Err(format!("{}: the programs gave different results: {:?} {done:?}", row.name, previous.map(|previous| previous.0)));
             }
