@@ -14,7 +14,7 @@ use Rattle.semantics.specs.OwnRun.{scriptRun}
 use Rattle.sequencer.specs.Run.{RunEnd, logAfter, runAnswer}
 use Rattle.correct.specs.CompilerCorrect.{CompilerCorrect}
 use Rattle.correct.proofs.Fills.{events-left, front, rest}
-use Rattle.correct.proofs.CompileAndRun.{none-refused, whole-run, words-counted, written-are}
+use Rattle.correct.proofs.WholeRun.{none-refused, whole-run, words-counted, written-are}
 
 pub compiler-correct : CompilerCorrect
 unfolding runAnswer logAfter scriptBody

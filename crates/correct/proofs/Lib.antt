@@ -5,8 +5,9 @@ pub mod Suffices
 pub mod Ports
 pub mod Words
 pub mod Simulation
-pub mod CompileAndRun
+pub mod WholeRun
 pub mod Fills
 pub mod CompilerCorrect
-pub mod OneCall
 pub mod InterpreterCorrect
+pub mod Resumed
+pub mod ResumeCorrect

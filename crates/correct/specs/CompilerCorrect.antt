@@ -20,7 +20,7 @@ use Rattle.sequencer.specs.Run.{RunEnd, eventsRefusal, imageRun, logAfter, runA
 use Rattle.step.specs.Sequencer.{freshSequencer}
 use Rattle.sequencer.specs.declared.RunResult.{RunResult}
 
--- every element is a byte; the type `&[u8]` ensures it, so `compile_and_run` does not require it
+-- every element is a byte; the type `&[u8]` ensures it, so `compile` does not require it
 abbrev pub Bytes : List ℕ → Type 0
 Bytes bs = (k : ℕ) → getD bs k 0 < 256
 

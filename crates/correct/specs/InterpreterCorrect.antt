@@ -1,22 +1,23 @@
 -- The interpreter is correct: it answers what compiling the script and running the image from a fresh sequencer answers, for every script that
--- the compiler accepts, every device and event list, and at every budget and every length of log, so also where the run ends with 19 or 24. The
--- contracts of `interpret` and `compile_and_run` say that the code computes these definitions. The proof is `interpreter-correct` in
--- proofs/InterpreterCorrect.antt. See docs/CHIP.md, "Interpreting a script".
-use Prim.Native.Nat.{ℕ, _≤_}
+-- the compiler accepts, every device and event list, and at every budget and every length of log, so also where the run ends with 19 or 24. A
+-- script that the compiler refuses is refused with the same number and place. The contracts of `interpret`, `compile` and `run` say that the code
+-- computes these definitions. The proof is `interpreter-correct` in proofs/InterpreterCorrect.antt. See docs/CHIP.md, "Interpreting a script".
+use Prim.Native.Nat.{ℕ, _*_, _≤_}
 use mathlib.Core.Path.{_≡_}
 use mathlib.Core.List.{List}
 use lib.ListN.{length}
 use Rattle.compiler.specs.Compile.{compileResult}
 use Rattle.device.specs.declared.Device.{Device}
-use Rattle.interpreter.specs.Interpret.{interpretLog, interpretResult}
+use Rattle.interpreter.specs.Interpret.{interpretLog, interpretResult, refusedInterpret}
 use Rattle.interpreter.specs.Walk.{scriptWalk, walkEnd}
 use Rattle.interpreter.specs.declared.InterpretResult.{InterpretResult}
 use Rattle.outcome.specs.Ending as ending
+use Rattle.outcome.specs.Refusal.{refusal}
+use Rattle.record.specs.Record.{mostRecords, recordSize}
 use Rattle.semantics.specs.OwnRun.{scriptRun}
 use Rattle.sequencer.specs.Run.{imageRun, logAfter, runAnswer}
 use Rattle.sequencer.specs.declared.RunResult.{RunResult}
 use Rattle.step.specs.Sequencer.{freshSequencer}
-use Rattle.correct.specs.CompileAndRun.{compileAndRunLog, compileAndRunResult}
 use Rattle.correct.specs.CompilerCorrect.{Bytes, wordsWritten}
 
 -- the answer of the interpreter is that of a run of an image, without the sequencer
@@ -38,11 +39,13 @@ pub record InterpreterCorrect : Type 0 where
       × (interpretLog script d events budget log ≡ logAfter (wordsWritten script buffer) d freshSequencer events budget log)
       × (scriptWalk script d events budget (length log) .run .world .accesses
       ≡ imageRun (wordsWritten script buffer) d freshSequencer events budget (length log) .machine .world .accesses)
-  -- for every script, a refused one too, the call answers what `compile_and_run` answers
-  pub sameCall :
-      (script : List ℕ) (d : Device) (events : List ℕ) (budget : ℕ) (log : List ℕ) → Bytes script
-      → SameAnswer (interpretResult script d events budget log) (compileAndRunResult script d events budget log)
-      × (interpretLog script d events budget log ≡ compileAndRunLog script d events budget log)
+  -- a script that the compiler refuses, with an image buffer that is long enough for every script, is refused with the same number and place,
+  -- and nothing changes
+  pub sameRefusal :
+      (script buffer : List ℕ) (d : Device) (events : List ℕ) (budget : ℕ) (log : List ℕ) → recordSize * mostRecords ≤ length buffer
+      → (compileResult script buffer .refusal ≡ 0 → ⊥)
+      → (interpretResult script d events budget log ≡ refusedInterpret (refusal (compileResult script buffer .refusal) (compileResult script buffer .place)) d)
+      × (interpretLog script d events budget log ≡ log)
   -- where the log and the budget are large enough, the walk is the script's own run
   pub ownRun :
       (script : List ℕ) (d : Device) (events : List ℕ) (budget room : ℕ)

@@ -1,4 +1,4 @@
 pub mod Cases
 pub mod CompilerCorrect
-pub mod CompileAndRun
 pub mod InterpreterCorrect
+pub mod ResumeCorrect

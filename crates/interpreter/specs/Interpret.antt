@@ -15,8 +15,8 @@ use Rattle.step.specs.Step.{logFilled}
 use Rattle.interpreter.specs.Walk.{WalkEnd, scriptWalk}
 use Rattle.interpreter.specs.declared.InterpretResult.{InterpretResult}
 
--- "Refusals: the script's 1 to 8, then 11 for the device and 12." They are those of compiling and running in one call (`compileAndRunRefusal` in
--- `correct`; `sameCall` of `InterpreterCorrect` says that both calls answer alike)
+-- "Refusals: the script's 1 to 8, then 11 for the device and 12." They are those of compiling, and then of running from a fresh sequencer (`sameRun`
+-- and `sameRefusal` of `InterpreterCorrect` in `correct`)
 unfoldable pub interpretRefusal : List ℕ → Device → List ℕ → Refusal
 interpretRefusal script d events =
     cond (eqb (scriptRefusal script .number) 0) (cond (deviceInRange d) (eventsRefusal events) (refusal number.badState 0))

@@ -107,6 +107,14 @@ const COMPILED_LINE: usize = 33000;
 
 const RUN_LINE: usize = 34000;
 
+pub fn sequencer(sequencer: Sequencer) {
+    let bytes = sequencer_state::bytes_of(sequencer);
+    let mut line = [0u8; STATE_LINE];
+    let a = digits::put_text(&mut line, 0, b"SEQUENCER ");
+    let b = put_bytes(&mut line, a, &bytes, sequencer_state::SIZE);
+    print(&mut line, b);
+}
+
 pub fn state(device: Device) {
     let mut line = [0u8; STATE_LINE];
     let a = digits::put_text(&mut line, 0, b"STATE ");
@@ -183,38 +191,35 @@ fn put_entry(line: &mut [u8], at: usize, entry: u64) -> usize {
     digits::put_hex(line, next, log::value(entry))
 }
 
-fn put_entries(line: &mut [u8], at: usize, log: &[u64], size: usize) -> usize {
+fn put_entries(line: &mut [u8], at: usize, log: &[u64]) -> usize {
     let mut next = at;
     for k in 0..log.len() {
-        if size <= k {
-            return next;
-        }
         next = put_entry(line, next, log[k]);
     }
     next
 }
 
-fn put_log(line: &mut [u8], at: usize, log: &[u64], size: usize) -> usize {
-    if size == 0 {
+fn put_log(line: &mut [u8], at: usize, log: &[u64]) -> usize {
+    if log.len() == 0 {
         return at;
     }
     let next = digits::put(line, at, b' ');
-    put_entries(line, next, log, size)
+    put_entries(line, next, log)
 }
 
-// The device after a run, and the first `size` entries of the log.
-fn put_device(line: &mut [u8], at: usize, device: Device, log: &[u64], size: usize) -> usize {
+// The device after a run, and the log.
+fn put_device(line: &mut [u8], at: usize, device: Device, log: &[u64]) -> usize {
     let a = digits::put(line, at, b' ');
     let b = put_state(line, a, device);
-    put_log(line, b, log, size)
+    put_log(line, b, log)
 }
 
 // The sequencer after a run, the device and the log.
-fn put_session(line: &mut [u8], at: usize, session: Session, log: &[u64], size: usize) -> usize {
+fn put_session(line: &mut [u8], at: usize, session: Session, log: &[u64]) -> usize {
     let device = session.device;
     let sequencer = session.sequencer;
     let a = put_sequencer(line, at, sequencer);
-    put_device(line, a, device, log, size)
+    put_device(line, a, device, log)
 }
 
 fn put_ended(line: &mut [u8], outcome: u32, steps: u32, taken: usize, logged: usize) -> usize {
@@ -225,7 +230,7 @@ fn put_ended(line: &mut [u8], outcome: u32, steps: u32, taken: usize, logged: us
     put_next(line, d, short(logged))
 }
 
-pub fn run_ended(result: RunResult, session: Session, log: &[u64], size: usize) {
+pub fn run_ended(result: RunResult, session: Session, log: &[u64]) {
     let mut line = [0u8; RUN_LINE];
     let a = put_ended(
         &mut line,
@@ -234,14 +239,14 @@ pub fn run_ended(result: RunResult, session: Session, log: &[u64], size: usize) 
         result.taken,
         result.logged,
     );
-    let b = put_session(&mut line, a, session, log, size);
+    let b = put_session(&mut line, a, session, log);
     print(&mut line, b);
 }
 
-pub fn run_refused(number: u32, place: u32, session: Session, log: &[u64], size: usize) {
+pub fn run_refused(number: u32, place: u32, session: Session, log: &[u64]) {
     let mut line = [0u8; RUN_LINE];
     let a = put_refusal(&mut line, number, place);
-    let b = put_session(&mut line, a, session, log, size);
+    let b = put_session(&mut line, a, session, log);
     print(&mut line, b);
 }
 
@@ -259,10 +264,10 @@ fn put_interpreted(line: &mut [u8], result: InterpretResult) -> usize {
 }
 
 // The answer to a script that was interpreted: it has no sequencer.
-pub fn interpreted(result: InterpretResult, log: &[u64], size: usize) {
+pub fn interpreted(result: InterpretResult, log: &[u64]) {
     let device = result.device;
     let mut line = [0u8; RUN_LINE];
     let a = put_interpreted(&mut line, result);
-    let b = put_device(&mut line, a, device, log, size);
+    let b = put_device(&mut line, a, device, log);
     print(&mut line, b);
 }

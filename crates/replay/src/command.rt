@@ -185,6 +185,12 @@ pub fn run(session: Session, line: &[u8]) -> Session {
     if kind == b'Q' {
         return runs::set_sequencer(session, line);
     }
+    if kind == b'P' {
+        return runs::show_sequencer(session, line);
+    }
+    if kind == b'G' {
+        return runs::load_sequencer(session, line);
+    }
     if kind == runs::RUN {
         return runs::run(session, line, kind);
     }

@@ -1,11 +1,17 @@
-// The commands `Q`, which sets the sequencer, `X`, which runs an image, `T`, which compiles and runs a script, and `N`, which interprets one.
-// See docs/CASES.md, "Runs".
+// The commands `Q`, `P` and `G`, which set, show and load the sequencer, `X`, which runs an image, `T`, which compiles a script and runs its image, and
+// `N`, which interprets one. See docs/CASES.md, "Runs".
 use crate::answer;
 use crate::session::Session;
 use crate::strings;
 use interpreter::InterpretResult;
+use record::Record;
 use sequencer::RunResult;
+use sequencer_state::LoadResult;
 use step::Sequencer;
+ghost use mathlib.Core.Path.{_≡_};
+ghost use Prim.Native.Nat.{_*_, _≤_};
+ghost use lib.ListN.{length};
+ghost use Rattle.record.specs.Record.{mostRecords, recordSize};
 
 fn unread(session: Session) -> Session {
     answer::unread();
@@ -68,6 +74,45 @@ pub fn set_sequencer(session: Session, line: &[u8]) -> Session {
     set_counters(session, line, used.next, place.value, used.value as usize)
 }
 
+// P
+pub fn show_sequencer(session: Session, line: &[u8]) -> Session {
+    if !digits::at_end(line, 1) {
+        return unread(session);
+    }
+    let sequencer = session.sequencer;
+    answer::sequencer(sequencer);
+    session
+}
+
+fn load_bytes(bytes: &[u8; strings::MOST_BYTES]) -> LoadResult {
+    sequencer_state::load(&bytes[..sequencer_state::SIZE])
+}
+
+// G bytes. After a refusal the sequencer stays as it was.
+pub fn load_sequencer(session: Session, line: &[u8]) -> Session {
+    let saved = strings::next_string(line, 1);
+    if !saved.ok {
+        return unread(session);
+    }
+    if saved.count != sequencer_state::SIZE {
+        return unread(session);
+    }
+    if !digits::at_end(line, saved.next) {
+        return unread(session);
+    }
+    let mut bytes = [0u8; strings::MOST_BYTES];
+    strings::copy_bytes(line, saved.at, saved.count, &mut bytes);
+    let loaded = load_bytes(&bytes);
+    let refusal = loaded.refusal();
+    let present = session.sequencer;
+    if refusal.number == 0 {
+        answer::loaded();
+    } else {
+        answer::refused(refusal.number, refusal.place);
+    }
+    session.with_sequencer(loaded.sequencer_or(present))
+}
+
 // ---- the runs
 
 // The letters of the commands.
@@ -107,25 +152,114 @@ fn session_of(result: RunResult) -> Session {
 }
 
 // After a refusal the session is unchanged.
-fn answered(session: Session, result: RunResult, log: &[u64], size: usize) -> Session {
+fn answered(session: Session, result: RunResult, log: &[u64]) -> Session {
     if sequencer::is_refusal(result.outcome) {
-        answer::run_refused(result.outcome, result.place, session, log, size);
+        answer::run_refused(result.outcome, result.place, session, log);
         return session;
     }
     let next = session_of(result);
-    answer::run_ended(result, next, log, size);
+    answer::run_ended(result, next, log);
     next
 }
 
-// A refusal returns the device unchanged.
-fn interpreted(session: Session, result: InterpretResult, log: &[u64], size: usize) -> Session {
-    let device = result.device;
-    answer::interpreted(result, log, size);
-    session.with_device(device)
+// Runs an image on the device and the sequencer of the session.
+fn run_image(
+    session: Session,
+    budget: u32,
+    image: &[u8],
+    events: &[u32],
+    log: &mut [u64],
+) -> Session {
+    let device = session.device;
+    let sequencer = session.sequencer;
+    let result = sequencer::run(image, device, sequencer, events, budget, log);
+    answered(session, result, log)
 }
 
-// Runs an image on the device and the sequencer of the session, or compiles or interprets a script on its device. A command that is too large
-// for the buffers of `replay` is answered `UNREAD`.
+fn index(words: u32) -> usize
+    ensures { λ r. ⌜ r ≡ words ⌝ }
+{
+    words as usize
+}
+
+// Runs the first `words` words of an image.
+fn run_words(
+    session: Session,
+    budget: u32,
+    image: &[u8],
+    words: u32,
+    events: &[u32],
+    log: &mut [u64],
+) -> Session
+    requires { ⌜ (recordSize * words ≤ length (now image)) × (words ≤ mostRecords) ⌝ }
+{
+    let end = Record::SIZE * index(words);
+    run_image(session, budget, &image[..end], events, log)
+}
+
+// Compiles a script and runs its image.
+fn compile_then_run(
+    session: Session,
+    budget: u32,
+    script: &[u8],
+    image: &mut [u8],
+    events: &[u32],
+    log: &mut [u64],
+) -> Session {
+    let compiled = compiler::compile(script, image);
+    if compiled.refusal != 0 {
+        answer::run_refused(compiled.refusal, compiled.place, session, log);
+        return session;
+    }
+    run_words(session, budget, image, compiled.words, events, log)
+}
+
+// An image buffer of this size is long enough for every script.
+const IMAGE_SIZE: usize = Record::SIZE * Record::MOST;
+
+fn run_script(
+    session: Session,
+    budget: u32,
+    script: &[u8],
+    events: &[u32],
+    log: &mut [u64],
+) -> Session {
+    let mut image = [0u8; IMAGE_SIZE];
+    compile_then_run(session, budget, script, &mut image, events, log)
+}
+
+// Interprets a script on the device of the session. A refusal returns the device unchanged.
+fn interpret(
+    session: Session,
+    budget: u32,
+    script: &[u8],
+    events: &[u32],
+    log: &mut [u64],
+) -> Session {
+    let device = session.device;
+    let result = interpreter::interpret(script, device, events, budget, log);
+    let next = result.device;
+    answer::interpreted(result, log);
+    session.with_device(next)
+}
+
+fn perform(
+    session: Session,
+    request: RunRequest,
+    bytes: &[u8],
+    events: &[u32],
+    log: &mut [u64],
+) -> Session {
+    if request.letter == INTERPRET {
+        return interpret(session, request.budget, bytes, events, log);
+    }
+    if request.letter == COMPILE_AND_RUN {
+        return run_script(session, request.budget, bytes, events, log);
+    }
+    run_image(session, request.budget, bytes, events, log)
+}
+
+// A command that is too large for the buffers of `replay` is answered `UNREAD`.
 fn run_within(
     session: Session,
     request: RunRequest,
@@ -145,37 +279,13 @@ fn run_within(
     if log.len() < size {
         return unread(session);
     }
-    let device = session.device;
-    if request.letter == INTERPRET {
-        let result = interpreter::interpret(
-            &bytes[..count],
-            device,
-            &events[..number],
-            request.budget,
-            &mut log[..size],
-        );
-        return interpreted(session, result, log, size);
-    }
-    if request.letter == COMPILE_AND_RUN {
-        let result = correct::compile_and_run(
-            &bytes[..count],
-            device,
-            &events[..number],
-            request.budget,
-            &mut log[..size],
-        );
-        return answered(session, result, log, size);
-    }
-    let sequencer = session.sequencer;
-    let result = sequencer::run(
+    perform(
+        session,
+        request,
         &bytes[..count],
-        device,
-        sequencer,
         &events[..number],
-        request.budget,
         &mut log[..size],
-    );
-    answered(session, result, log, size)
+    )
 }
 
 fn run_on(

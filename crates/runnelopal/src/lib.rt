@@ -1,155 +1,77 @@
-// The functions for programs in other languages. They take numbers and slices, and give an answer whatever these contain. The result
-// is 0, a refusal, or the ending of a run; the two calls about an entry of the log return its numbers. Further numbers go into the slice
-// `answer`, as many as fit. See bindings/c/runnelopal.h.
+// The functions for programs in other languages. They take numbers and slices, and give an answer whatever these contain. C programs call them
+// through the inline functions of bindings/c/runnelopal.h, which also take null pointers for empty slices; hence `raw` in their names.
+pub mod answer;
+mod runs;
+
 use access::Access;
+use answer::AccessAnswer;
+use answer::CompileAnswer;
+use answer::OutputsAnswer;
+use answer::RunAnswer;
+use answer::SequencerAnswer;
 use device::Device;
-use device::Outputs;
-use device::single::AccessReply;
-use device::single::EventReply;
-use interpreter::InterpretResult;
-use sequencer::RunResult;
 use step::Sequencer;
 ghost use mathlib.Core.Path.{_≡_};
-ghost use mathlib.Core.List.{[], _∷_};
-ghost use Prim.Native.Nat.{_<_};
-ghost use lib.ListN.{length, set};
 ghost use Rattle.compiler.specs.Compile.{compileResult, imageAfter};
 ghost use Rattle.device.specs.Device.{freshDevice};
-ghost use Rattle.interpreter.specs.Interpret.{interpretLog};
-ghost use Rattle.sequencer.specs.Run.{logAfter};
-ghost use Rattle.step.specs.Sequencer.{freshSequencer};
-ghost use Rattle.little_endian.specs.Bytes.{flagByte};
 ghost use Rattle.log.specs.Entry.{entryOwner, entryValue};
+ghost use Rattle.sequencer_state.specs.State as sequencerState;
 ghost use Rattle.state.specs.Call.{savedAccess, bytesAfterAccess, savedEvent, bytesAfterEvent};
-ghost use Rattle.state.specs.State.{saved, saveRefusal};
+ghost use Rattle.state.specs.State as deviceState;
+ghost use Rattle.step.specs.Sequencer.{freshSequencer};
+ghost use Rattle.runnelopal.specs.Answers.{accessAnswered, compileAnswered, eventAnswered};
 ghost use Rattle.runnelopal.specs.Calls.{
-  numbered,
-  outputNumbers,
-  freshRun,
-  runNumbers,
-  freshInterpret,
-  interpretNumbers,
   accessOf,
-  accessNumbers,
-  eventNumbers,
-  runSavedUnlessRefused,
+  afterInterpret,
+  afterRun,
+  savedInterpret,
+  savedOutputs,
+  savedRun,
+  savedSequencerAnswer,
+  validDevice,
+  validSequencer,
 };
 
-// Numbers that do not fit into `answer` are dropped.
-fn put(answer: &mut [u64], at: usize, number: u64)
-    ensures { λ _. ⌜ now (answer .exit) ≡ set (now (answer .entry)) at number ⌝ }
-{
-    if at < answer.len() {
-        answer[at] = number;
-    }
-}
-
-// Compiles a script into the image buffer. In `answer`: the place of a refusal, the number of words.
+// Compiles a script into the image buffer.
 #[no_mangle]
-pub extern "C" fn runnelopal_compile(script: &[u8], image: &mut [u8], answer: &mut [u64]) -> u32
-    ensures { λ r. ⌜ (r ≡ compileResult (now (script .entry)) (now (image .entry)) .refusal) × (now (image .exit) ≡ imageAfter (now (script .entry)) (now (image .entry))) ⌝ }
-    ensures { λ _. ⌜ now (answer .exit) ≡ numbered 0 (compileResult (now (script .entry)) (now (image .entry)) .place ∷ compileResult (now (script .entry)) (now (image .entry)) .words ∷ []) (now (answer .entry)) ⌝ }
+pub extern "C" fn runnelopal_raw_compile(script: &[u8], image: &mut [u8]) -> CompileAnswer
+    ensures { λ r. ⌜ (r ≡ compileAnswered (compileResult (now (script .entry)) (now (image .entry)))) × (now (image .exit) ≡ imageAfter (now (script .entry)) (now (image .entry))) ⌝ }
 {
     let r = compiler::compile(script, image);
-    put(answer, 0, r.place as u64);
-    put(answer, 1, r.words as u64);
-    r.refusal
-}
-
-fn put_flag(answer: &mut [u64], at: usize, on: bool)
-    ensures { λ _. ⌜ now (answer .exit) ≡ set (now (answer .entry)) at (flagByte on) ⌝ }
-{
-    if on {
-        put(answer, at, 1);
-    } else {
-        put(answer, at, 0);
+    CompileAnswer {
+        refusal: r.refusal,
+        place: r.place,
+        words: r.words,
     }
 }
 
-// SCI, SMI and the monitor interrupt, from index `at` on.
-fn put_outputs(answer: &mut [u64], at: usize, outputs: Outputs)
-    requires { ⌜ at < 1000 ⌝ }
-    ensures { λ _. ⌜ now (answer .exit) ≡ numbered at (outputNumbers outputs) (now (answer .entry)) ⌝ }
-{
-    put_flag(answer, at, outputs.sci);
-    put_flag(answer, at + 1, outputs.smi);
-    put_flag(answer, at + 2, outputs.monitor);
-}
-
-fn put_run(answer: &mut [u64], r: RunResult)
-    ensures { λ _. ⌜ now (answer .exit) ≡ numbered 0 (runNumbers r) (now (answer .entry)) ⌝ }
-{
-    let sequencer = r.sequencer;
-    put(answer, 0, r.place as u64);
-    put(answer, 1, r.steps as u64);
-    put(answer, 2, r.taken as u64);
-    put(answer, 3, r.logged as u64);
-    put(answer, 4, sequencer.place as u64);
-}
-
-// A refused run leaves the state unchanged.
-fn save_run_unless_refused(state: &mut [u8], outcome: u32, device: Device)
-    ensures { λ _. ⌜ now (state .exit) ≡ runSavedUnlessRefused outcome device (now (state .entry)) ⌝ }
-{
-    if !sequencer::is_refusal(outcome) {
-        state::save(device, state);
-    }
-}
-
-// Runs an image on a fresh device with a fresh sequencer, and saves the device into `state` if that has the length of a state. In
-// `answer`: the place of a refusal, the steps, the events taken, the values logged, the place of the sequencer.
+// Runs an image from a saved device and a saved sequencer, and saves both after the run.
 #[no_mangle]
-pub extern "C" fn runnelopal_run(
+pub extern "C" fn runnelopal_raw_run(
     image: &[u8],
+    device: &mut [u8],
+    sequencer: &mut [u8],
     events: &[u32],
     budget: u32,
     log: &mut [u64],
-    state: &mut [u8],
-    answer: &mut [u64],
-) -> u32
-    ensures { λ r. ⌜ (r ≡ freshRun (now (image .entry)) (now (events .entry)) budget (now (log .entry)) .outcome) × (now (log .exit) ≡ logAfter (now (image .entry)) freshDevice freshSequencer (now (events .entry)) budget (now (log .entry))) ⌝ }
-    ensures { λ _. ⌜ now (state .exit) ≡ runSavedUnlessRefused (freshRun (now (image .entry)) (now (events .entry)) budget (now (log .entry)) .outcome) (freshRun (now (image .entry)) (now (events .entry)) budget (now (log .entry)) .device) (now (state .entry)) ⌝ }
-    ensures { λ _. ⌜ now (answer .exit) ≡ numbered 0 (runNumbers (freshRun (now (image .entry)) (now (events .entry)) budget (now (log .entry)))) (now (answer .entry)) ⌝ }
+) -> RunAnswer
+    ensures { λ a. ⌜ afterRun a (now (device .exit)) (now (sequencer .exit)) (now (log .exit)) ≡ savedRun (now (image .entry)) (now (device .entry)) (now (sequencer .entry)) (now (events .entry)) budget (now (log .entry)) ⌝ }
 {
-    let device = Device::fresh();
-    let fresh = Sequencer::fresh();
-    let r = sequencer::run(image, device, fresh, events, budget, log);
-    let next = r.device;
-    save_run_unless_refused(state, r.outcome, next);
-    put_run(answer, r);
-    r.outcome
+    runs::run(image, device, sequencer, events, budget, log)
 }
 
-fn put_interpreted(answer: &mut [u64], r: InterpretResult)
-    ensures { λ _. ⌜ now (answer .exit) ≡ numbered 0 (interpretNumbers r) (now (answer .entry)) ⌝ }
-{
-    put(answer, 0, r.place as u64);
-    put(answer, 1, r.steps as u64);
-    put(answer, 2, r.taken as u64);
-    put(answer, 3, r.logged as u64);
-}
-
-// Interprets a script on a fresh device, without an image, and saves the device into `state` if that has the length of a state. In `answer`:
-// the place of a refusal, the steps, the events taken, the values logged.
+// Interprets a script on a saved device, without an image, and saves the device after it.
 #[no_mangle]
-pub extern "C" fn runnelopal_interpret(
+pub extern "C" fn runnelopal_raw_interpret(
     script: &[u8],
+    device: &mut [u8],
     events: &[u32],
     budget: u32,
     log: &mut [u64],
-    state: &mut [u8],
-    answer: &mut [u64],
-) -> u32
-    ensures { λ r. ⌜ (r ≡ freshInterpret (now (script .entry)) (now (events .entry)) budget (now (log .entry)) .outcome) × (now (log .exit) ≡ interpretLog (now (script .entry)) freshDevice (now (events .entry)) budget (now (log .entry))) ⌝ }
-    ensures { λ _. ⌜ now (state .exit) ≡ runSavedUnlessRefused (freshInterpret (now (script .entry)) (now (events .entry)) budget (now (log .entry)) .outcome) (freshInterpret (now (script .entry)) (now (events .entry)) budget (now (log .entry)) .device) (now (state .entry)) ⌝ }
-    ensures { λ _. ⌜ now (answer .exit) ≡ numbered 0 (interpretNumbers (freshInterpret (now (script .entry)) (now (events .entry)) budget (now (log .entry)))) (now (answer .entry)) ⌝ }
+) -> RunAnswer
+    ensures { λ a. ⌜ afterInterpret a (now (device .exit)) (now (log .exit)) ≡ savedInterpret (now (script .entry)) (now (device .entry)) (now (events .entry)) budget (now (log .entry)) ⌝ }
 {
-    let device = Device::fresh();
-    let r = interpreter::interpret(script, device, events, budget, log);
-    let next = r.device;
-    save_run_unless_refused(state, r.outcome, next);
-    put_interpreted(answer, r);
-    r.outcome
+    runs::interpret(script, device, events, budget, log)
 }
 
 // The owner of the port in an entry of the log.
@@ -168,49 +90,82 @@ pub extern "C" fn runnelopal_entry_value(entry: u64) -> u32
     log::value(entry)
 }
 
-// Saves the fresh device into `state`. Refuses a slice that does not have the length of a state, with 11.
+// Saves the fresh device. Refuses a slice that does not have the length of a saved device, with 11.
 #[no_mangle]
-pub extern "C" fn runnelopal_fresh(state: &mut [u8]) -> u32
-    ensures { λ r. ⌜ (r ≡ saveRefusal (now (state .entry)) .number) × (now (state .exit) ≡ saved freshDevice (now (state .entry))) ⌝ }
+pub extern "C" fn runnelopal_raw_fresh_device(device: &mut [u8]) -> u32
+    ensures { λ r. ⌜ (r ≡ deviceState.saveRefusal (now (device .entry)) .number) × (now (device .exit) ≡ deviceState.saved freshDevice (now (device .entry))) ⌝ }
 {
     let fresh = Device::fresh();
-    let saved = state::save(fresh, state);
+    let saved = state::save(fresh, device);
     saved.number
 }
 
-fn put_access(answer: &mut [u64], r: AccessReply)
-    ensures { λ _. ⌜ now (answer .exit) ≡ numbered 0 (accessNumbers r) (now (answer .entry)) ⌝ }
-{
-    let outputs = r.outputs;
-    put(answer, 0, r.place as u64);
-    put(answer, 1, r.status as u64);
-    put(answer, 2, r.value as u64);
-    put_outputs(answer, 3, outputs);
-    put(answer, 6, r.owner as u64);
-}
-
-fn put_event(answer: &mut [u64], r: EventReply)
-    ensures { λ _. ⌜ now (answer .exit) ≡ numbered 0 (eventNumbers r) (now (answer .entry)) ⌝ }
-{
-    let outputs = r.outputs;
-    put(answer, 0, r.place as u64);
-    put_outputs(answer, 1, outputs);
-}
-
-// One access to a saved device. In `answer`: the place of a refusal, the status, the value, SCI, SMI, the monitor interrupt, the owner of
-// the port.
+// Saves the fresh sequencer. Refuses a slice that does not have the length of a saved sequencer, with 11.
 #[no_mangle]
-pub extern "C" fn runnelopal_access(
-    state: &mut [u8],
+pub extern "C" fn runnelopal_raw_fresh_sequencer(sequencer: &mut [u8]) -> u32
+    ensures { λ r. ⌜ (r ≡ sequencerState.saveRefusal (now (sequencer .entry)) .number) × (now (sequencer .exit) ≡ sequencerState.saved freshSequencer (now (sequencer .entry))) ⌝ }
+{
+    let fresh = Sequencer::fresh();
+    let saved = sequencer_state::save(fresh, sequencer);
+    saved.number
+}
+
+// Whether the bytes are a device that is not refused with 11.
+#[no_mangle]
+pub extern "C" fn runnelopal_raw_valid_device(device: &[u8]) -> bool
+    ensures { λ r. ⌜ r ≡ validDevice (now (device .entry)) ⌝ }
+{
+    if state::holds_device(device) {
+        return runs::device_in(device).in_range();
+    }
+    false
+}
+
+// Whether the bytes are a sequencer that is not refused with 11.
+#[no_mangle]
+pub extern "C" fn runnelopal_raw_valid_sequencer(sequencer: &[u8]) -> bool
+    ensures { λ r. ⌜ r ≡ validSequencer (now (sequencer .entry)) ⌝ }
+{
+    if sequencer_state::holds_sequencer(sequencer) {
+        return runs::sequencer_in(sequencer).in_range();
+    }
+    false
+}
+
+// The outputs of a saved device.
+#[no_mangle]
+pub extern "C" fn runnelopal_raw_outputs(device: &[u8]) -> OutputsAnswer
+    ensures { λ r. ⌜ r ≡ savedOutputs (now (device .entry)) ⌝ }
+{
+    if !runnelopal_raw_valid_device(device) {
+        return answer::outputs_refused(outcome::BAD_STATE);
+    }
+    let held = runs::device_in(device);
+    answer::outputs_answered(held)
+}
+
+// The place and the counters of a saved sequencer.
+#[no_mangle]
+pub extern "C" fn runnelopal_raw_sequencer(sequencer: &[u8]) -> SequencerAnswer
+    ensures { λ r. ⌜ r ≡ savedSequencerAnswer (now (sequencer .entry)) ⌝ }
+{
+    if !runnelopal_raw_valid_sequencer(sequencer) {
+        return answer::sequencer_refused(outcome::BAD_STATE);
+    }
+    let held = runs::sequencer_in(sequencer);
+    answer::sequencer_answered(held)
+}
+
+// One access to a saved device.
+#[no_mangle]
+pub extern "C" fn runnelopal_raw_access(
+    device: &mut [u8],
     write: bool,
     width: u32,
     port: u32,
     value: u32,
-    answer: &mut [u64],
-) -> u32
-    ensures { λ r. ⌜ r ≡ savedAccess (now (state .entry)) (accessOf write width port value) .refusal ⌝ }
-    ensures { λ _. ⌜ now (state .exit) ≡ bytesAfterAccess (now (state .entry)) (accessOf write width port value) ⌝ }
-    ensures { λ _. ⌜ now (answer .exit) ≡ numbered 0 (accessNumbers (savedAccess (now (state .entry)) (accessOf write width port value))) (now (answer .entry)) ⌝ }
+) -> AccessAnswer
+    ensures { λ r. ⌜ (r ≡ accessAnswered (savedAccess (now (device .entry)) (accessOf write width port value))) × (now (device .exit) ≡ bytesAfterAccess (now (device .entry)) (accessOf write width port value)) ⌝ }
 {
     let access = Access {
         write,
@@ -218,19 +173,13 @@ pub extern "C" fn runnelopal_access(
         port,
         value,
     };
-    let r = state::call::access(state, access);
-    put_access(answer, r);
-    r.refusal
+    answer::access_answered(state::call::access(device, access))
 }
 
-// One event on a saved device. In `answer`: the place of a refusal, SCI, SMI, the monitor interrupt.
+// One event on a saved device.
 #[no_mangle]
-pub extern "C" fn runnelopal_event(state: &mut [u8], number: u32, answer: &mut [u64]) -> u32
-    ensures { λ r. ⌜ r ≡ savedEvent (now (state .entry)) number .refusal ⌝ }
-    ensures { λ _. ⌜ now (state .exit) ≡ bytesAfterEvent (now (state .entry)) number ⌝ }
-    ensures { λ _. ⌜ now (answer .exit) ≡ numbered 0 (eventNumbers (savedEvent (now (state .entry)) number)) (now (answer .entry)) ⌝ }
+pub extern "C" fn runnelopal_raw_event(device: &mut [u8], number: u32) -> OutputsAnswer
+    ensures { λ r. ⌜ (r ≡ eventAnswered (savedEvent (now (device .entry)) number)) × (now (device .exit) ≡ bytesAfterEvent (now (device .entry)) number) ⌝ }
 {
-    let r = state::call::event(state, number);
-    put_event(answer, r);
-    r.refusal
+    answer::event_answered(state::call::event(device, number))
 }

@@ -44,19 +44,19 @@ after-access-one all w x entries h =
     ap eventsAfter h ∙ after-drop (length (w .accesses)) all
     ∙ ap (λ (n : ℕ). drop n all) (sym (one-more (w .accesses) _))
 
-after-write-one : (all : List ℕ) (p wd v : ℕ) (w : World) → OneEach all w → OneEach all (afterWrite p wd v w)
+pub after-write-one : (all : List ℕ) (p wd v : ℕ) (w : World) → OneEach all w → OneEach all (afterWrite p wd v w)
 unfolding afterWrite
 after-write-one all p wd v w h = after-access-one all w _ [] h
 
-read-one : (all : List ℕ) (p wd : ℕ) (w : World) → OneEach all w → OneEach all (afterRead p wd w)
+pub read-one : (all : List ℕ) (p wd : ℕ) (w : World) → OneEach all w → OneEach all (afterRead p wd w)
 unfolding afterRead
 read-one all p wd w h = after-access-one all w (readOf p wd) (entryLogged p wd w ∷ []) h
 
-after-test-one : (all : List ℕ) (p wd : ℕ) (w : World) → OneEach all w → OneEach all (afterTest p wd w)
+pub after-test-one : (all : List ℕ) (p wd : ℕ) (w : World) → OneEach all w → OneEach all (afterTest p wd w)
 unfolding afterTest
 after-test-one all p wd w h = after-access-one all w _ [] h
 
-after-delay-one : (all : List ℕ) (n : ℕ) (w : World) → OneEach all w → OneEach all (afterDelay n w)
+pub after-delay-one : (all : List ℕ) (n : ℕ) (w : World) → OneEach all w → OneEach all (afterDelay n w)
 unfolding afterDelay
 after-delay-one all n w h = h
 

@@ -272,7 +272,7 @@ fault-not-19 words room used logged r =
 abbrev NotSpent : Step → Type 0
 NotSpent s = (f : ℕ) → s ≡ faults f → Not19 f
 
-step-not-19 : (image : List ℕ) (room : ℕ) (m : Machine) → NotSpent (nextStep image room m)
+pub step-not-19 : (image : List ℕ) (room : ℕ) (m : Machine) → NotSpent (nextStep image room m)
 unfolding nextStep
 step-not-19 image room m =
     branch NotSpent (leb (imageWords image) (m .place)) (λ f e z. let y : _≡_ {A = ℕ} 21 19 = cc in omega (arith, y))

@@ -59,7 +59,8 @@ pub fn is_refusal(outcome: u32) -> bool
 
 // ---- refusals
 
-fn bad_image(image: &[u8]) -> bool
+// Refusal 10. `runnelopal` calls it too.
+pub fn bad_image(image: &[u8]) -> bool
     ensures { λ r. ⌜ r ≡ badImage (now (image .entry)) ⌝ }
 {
     if image.len() == 0 {
@@ -196,8 +197,8 @@ fn count_step(steps: u32) -> u32
     steps + 1
 }
 
-// Runs the words of an image until the run ends. The device and the answer to its last access are one local, `last`, so that
-// each access copies the device only once.
+// Runs the words of an image until the run ends. The device and the answer to its last access are one local, `last`, and a delay or an event
+// stores the device in one statement, so that each of them copies the device only once.
 fn run_words(
     image: &[u8],
     device: Device,
@@ -242,17 +243,15 @@ fn run_words(
             position.place = next.place;
             steps = count_step(steps);
         } else if word.kind == word_kind::DELAY {
-            let delayed = last.device
+            last.device = last.device
                 .apply_event(device::event::tick_event(word.value));
-            last.device = delayed;
             position.place = position.place + 1;
             steps = count_step(steps);
         } else {
             // The next event, if there is one, is applied before the access.
             let taken = position.taken;
             if taken < events.len() {
-                let arrived = last.device.apply_event(events[taken]);
-                last.device = arrived;
+                last.device = last.device.apply_event(events[taken]);
             }
             last = last.device.access(execute::access_of(word));
             position = position.apply_answer(word, last.owner, last.answer.value, events, log);

@@ -1,34 +1,27 @@
 -- Slices of any length: `save` writes a slice of `stateSize` bytes as a whole and leaves any other slice unchanged. Only a slice of that
 -- length can hold a device.
-use Prim.Native.Nat.{ℕ, _+_, _≤_}
+use Prim.Native.Nat.{ℕ}
 use mathlib.Core.Path.{_≡_, refl, sym, _∙_}
 use mathlib.Core.Bool.{Bool, true, false, cond, false≢true}
 use lib.Dec.{eqb}
-use mathlib.Core.List.{List, [], append-nil}
-use lib.ListN.{drop, drop-of-length-le, length}
-use lib.Seq.{paste, take-length}
+use mathlib.Core.List.{List}
+use lib.ListN.{length}
+use lib.Seq.{paste}
 use borrow.Author.Tests.{eq-eqb, eqb-true, ne-eqb}
-use native.Mathlib.Omega.{arith}
 use Rattle.device.specs.Device.{freshDevice}
 use Rattle.device.specs.declared.Device.{Device}
+use Rattle.lists.proofs.Paste.{paste-whole}
 use Rattle.outcome.specs.Number as number
 use Rattle.outcome.specs.Refusal.{refusal}
 use Rattle.state.proofs.RoundTrip.{state-length}
 use Rattle.state.specs.State.{deviceFrom, deviceOr, holdsDevice, isSaved, loaded, saved, stateBytes, stateSize}
-
--- pasting a list of the same length at index 0 replaces the whole list
-pub whole : (lent part : List ℕ) → length part ≡ length lent → paste lent 0 part (length part) ≡ part
-whole lent part e =
-    let behind : length lent ≤ 0 + length part = omega arith in
-    let gone : drop (0 + length part) lent ≡ [] = drop-of-length-le lent behind in
-    rw (take-length part, gone, append-nil)
 
 pub saved-whole :
     (d : Device) (lent bytes : List ℕ) → length lent ≡ stateSize → bytes ≡ paste lent 0 (stateBytes d) (length (stateBytes d))
     → bytes ≡ saved d lent
 unfolding saved
 saved-whole d lent bytes n e =
-    rw (eq-eqb (length lent) stateSize n) (e ∙ whole lent (stateBytes d) (state-length d ∙ sym n))
+    rw (eq-eqb (length lent) stateSize n) (e ∙ paste-whole lent (stateBytes d) (state-length d ∙ sym n))
 
 pub saved-not : (d : Device) (lent : List ℕ) → (length lent ≡ stateSize → ⊥) → lent ≡ saved d lent
 unfolding saved

@@ -8,9 +8,7 @@ use key::Key;
 use monitor::Monitor;
 use outcome::Refusal;
 ghost use mathlib.Core.Path.{_≡_};
-ghost use Prim.Native.Nat.{_+_, _≤_};
 ghost use lib.ListN.{length};
-ghost use lib.Seq.{paste};
 ghost use Rattle.state.specs.State.{
   stateBytes,
   stateSize,
@@ -59,24 +57,14 @@ impl LoadResult {
     }
 }
 
-// Copies `part` into `bytes` at index `at`. The other bytes are unchanged.
-fn put(bytes: &mut [u8], at: usize, part: &[u8])
-    requires { ⌜ at + length (now part) ≤ length (now bytes) ⌝ }
-    ensures { λ _. ⌜ now (bytes .exit) ≡ paste (now (bytes .entry)) at (now (part .entry)) (length (now (part .entry))) ⌝ }
-{
-    for k in 0..part.len() {
-        bytes[at + k] = part[k];
-    }
-}
-
 pub fn bytes_of(device: Device) -> [u8; SIZE]
     ensures { λ r. ⌜ r ≡ stateBytes device ⌝ }
 {
     let mut bytes = [0u8; SIZE];
-    put(&mut bytes, 0, &device.config.to_bytes());
-    put(&mut bytes, KEY_START, &device.key.to_bytes());
-    put(&mut bytes, MONITOR_START, &device.monitor.to_bytes());
-    put(&mut bytes, ACPI_START, &device.acpi.to_bytes());
+    lists::put(&mut bytes, 0, &device.config.to_bytes());
+    lists::put(&mut bytes, KEY_START, &device.key.to_bytes());
+    lists::put(&mut bytes, MONITOR_START, &device.monitor.to_bytes());
+    lists::put(&mut bytes, ACPI_START, &device.acpi.to_bytes());
     bytes
 }
 
@@ -108,7 +96,7 @@ fn read_from(bytes: &[u8]) -> Device
 }
 
 // Do the bytes have the length of a state, and can a device hold them?
-fn holds_device(bytes: &[u8]) -> bool
+pub fn holds_device(bytes: &[u8]) -> bool
     ensures { λ r. ⌜ r ≡ holdsDevice (now (bytes .entry)) ⌝ }
 {
     if bytes.len() != SIZE {
@@ -122,7 +110,7 @@ pub fn save(device: Device, bytes: &mut [u8]) -> Refusal
     ensures { λ r. ⌜ (r ≡ saveRefusal (now (bytes .entry))) × (now (bytes .exit) ≡ saved device (now (bytes .entry))) ⌝ }
 {
     if bytes.len() == SIZE {
-        put(bytes, 0, &bytes_of(device));
+        lists::put(bytes, 0, &bytes_of(device));
         return Refusal {
             number: 0,
             place: 0,

@@ -1,0 +1,13 @@
+-- `event_answered` has the numbers of the reply, and its outputs as levels.
+use borrow.Author.Needs.{needs}
+use Rattle.runnelopal.proofs.answer.event_answered.Statement.{statement}
+use Rattle.runnelopal.proofs.answer.event_answered.Tie as tie
+
+levels-requires : tie.Need-levels-requires
+levels-requires c κs = search needs
+
+returns : tie.Need-returns
+returns c = rw (c .levels .ensures)
+
+pub event-answered-spec : {M : Type 1} → statement M
+event-answered-spec = tie.close (tie.spec levels-requires returns)

@@ -1,0 +1,21 @@
+-- `runnelopal_raw_event` answers what `call::event` replies, which changes the bytes.
+use mathlib.Core.Path.{_∙_}
+use borrow.Author.Needs.{needs}
+use Rattle.runnelopal.proofs.runnelopal_raw_event.Statement.{statement}
+use Rattle.runnelopal.proofs.runnelopal_raw_event.Tie as tie
+
+event-requires : tie.Need-event-requires
+event-requires c κs = search needs
+
+event-answered-requires : tie.Need-event-answered-requires
+event-answered-requires c κs = search needs
+
+same-length : tie.Need-same-length
+same-length c = search needs
+
+returns : tie.Need-returns
+returns c = let e = c .before .before .before .event .ensures in (c .event-answered .ensures ∙ rw (e .0), e .1)
+
+pub runnelopal-raw-event-spec : {M : Type 1} → statement M
+runnelopal-raw-event-spec =
+    tie.close (tie.spec event-requires event-answered-requires same-length returns)

@@ -1,0 +1,71 @@
+-- A sequencer that is saved and loaded is the same sequencer. 40 bytes, loaded and saved, are the same bytes.
+use Prim.Native.Nat.{ℕ, _+_, _<_}
+use mathlib.Core.Path.{_≡_, refl, _∙_}
+use mathlib.Core.Bool.{Bool, true, false, cond}
+use mathlib.Core.List.{List}
+use borrow.Author.Tests.{eq-eqb}
+use lib.ListN.{getD, length}
+use native.Mathlib.Omega.{arith}
+use Rattle.lists.proofs.Slice.{slice-whole}
+use Rattle.lists.specs.Slice.{slice}
+use Rattle.little_endian.proofs.ReadBack.{byte0-four, byte1-four, byte2-four, byte3-four, four-back}
+use Rattle.little_endian.specs.Bytes.{byte0, byte1, byte2, byte3, four}
+use Rattle.outcome.specs.Number as number
+use Rattle.outcome.specs.Refusal.{refusal}
+use Rattle.step.specs.Sequencer.{freshSequencer}
+use Rattle.step.specs.declared.Sequencer.{Sequencer}
+use Rattle.sequencer_state.specs.State.{
+  countersFrom,
+  holdsSequencer,
+  loaded,
+  saved,
+  sequencerBytes,
+  sequencerFrom,
+  sequencerOr,
+  sequencerSize,
+}
+
+-- each field fits four bytes, and there are eight counters. The types of the code ensure it, but for `used`, which a valid sequencer has at most 8
+pub record Typed (s : Sequencer) : Type 0 where
+  pub place : s .place < 0x1_0000_0000
+  pub used : s .used < 0x1_0000_0000
+  pub counter : (k : ℕ) → getD (s .counters) k 0 < 0x1_0000_0000
+  pub counters : length (s .counters) ≡ 8
+
+-- ---- a sequencer, saved and loaded
+pub bytes-length : (s : Sequencer) → length (sequencerBytes s) ≡ sequencerSize
+bytes-length s = refl
+
+module _ (s : Sequencer) (t : Typed s) where
+  pub load-back : sequencerFrom (sequencerBytes s) ≡ s
+  unfolding sequencerFrom
+  load-back =
+      let c : ℕ → ℕ = λ k. getD (s .counters) k 0 in
+      let b : (k : ℕ) → four (byte0 (c k)) (byte1 (c k)) (byte2 (c k)) (byte3 (c k)) ≡ c k = λ k. four-back (c k) (t .counter k) in
+      rw (four-back (s .place) (t .place), four-back (s .used) (t .used), b 0, b 1, b 2, b 3, b 4, b 5, b 6, b 7, slice-whole 0 8 (s .counters) (t .counters))
+
+-- ---- bytes, loaded and saved
+module _ (bytes : List ℕ) (byte : (k : ℕ) → getD bytes k 0 < 256) where
+  abbrev b : ℕ → ℕ
+  b k = getD bytes k 0
+
+  -- each byte of the number that four bytes stand for
+  first : (i j k l : ℕ) → byte0 (four (b i) (b j) (b k) (b l)) ≡ b i
+  first i j k l = byte0-four (b i) (b j) (b k) (b l) (byte i) (byte j) (byte k) (byte l)
+
+  second : (i j k l : ℕ) → byte1 (four (b i) (b j) (b k) (b l)) ≡ b j
+  second i j k l = byte1-four (b i) (b j) (b k) (b l) (byte i) (byte j) (byte k) (byte l)
+
+  third : (i j k l : ℕ) → byte2 (four (b i) (b j) (b k) (b l)) ≡ b k
+  third i j k l = byte2-four (b i) (b j) (b k) (b l) (byte i) (byte j) (byte k) (byte l)
+
+  fourth : (i j k l : ℕ) → byte3 (four (b i) (b j) (b k) (b l)) ≡ b l
+  fourth i j k l = byte3-four (b i) (b j) (b k) (b l) (byte i) (byte j) (byte k) (byte l)
+
+  bytes-back : sequencerBytes (sequencerFrom bytes) ≡ slice 0 sequencerSize 0 bytes
+  unfolding sequencerFrom
+  bytes-back = simp (first, second, third, fourth)
+
+pub save-back :
+    (bytes : List ℕ) → length bytes ≡ sequencerSize → ((k : ℕ) → getD bytes k 0 < 256) → sequencerBytes (sequencerFrom bytes) ≡ bytes
+save-back bytes n byte = bytes-back bytes byte ∙ slice-whole 0 sequencerSize bytes n
