@@ -156,7 +156,7 @@ pub type Scenario = fn(&mut Generator);
 pub struct Source {
     /// The kinds of commands that may come next, with their weights.
     pub scenarios: &'static [(u32, Scenario)],
-    /// Whether commands that print the state or the outputs are added in between.
+    /// Whether commands that print the state, the outputs or the sequencer are added in between.
     pub looks: bool,
 }
 
@@ -194,7 +194,7 @@ const SCENARIOS: [(u32, Scenario); 28] = [
     (4, Generator::run_script),
     (4, Generator::interpret_script),
     (4, Generator::run_image),
-    (3, Generator::set_sequencer),
+    (16, Generator::set_sequencer),
 ];
 
 impl Generator {
@@ -234,6 +234,7 @@ impl Generator {
         match self.random.below(12) {
             0..=5 => self.line(b"S"),
             6 => self.line(b"O"),
+            7 if self.random.one_in(3) => self.line(b"P"),
             _ => {}
         }
         if self.random.one_in(150) {
@@ -324,6 +325,20 @@ impl Generator {
             });
         }
         line.into_bytes()
+    }
+
+    /// A command that loads a device or a sequencer, both in range.
+    fn saved_line(&mut self) -> Vec<u8> {
+        match self.random.below(2) {
+            0 => {
+                let bytes = self.good_state();
+                self.load_line(&bytes)
+            }
+            _ => {
+                let sequencer = self.legal_sequencer(1);
+                self.load_sequencer_line(&sequencer)
+            }
+        }
     }
 
     /// A number in one to eight hex digits, in upper or lower case, with or without leading zeros.
@@ -1254,7 +1269,7 @@ impl Generator {
             }
             4 => self.write_line(1, INDEX_PORT, 0x55),
             5 => self.event_line(0x0300_0000),
-            6 => self.random.pick(&[b"O", b"S", b"F"]).to_vec(),
+            6 => self.random.pick(&[b"O", b"S", b"F", b"P"]).to_vec(),
             7 => scripts::short_command(&mut self.random),
             8 => self.sound_run_line(),
             _ => {
@@ -1330,18 +1345,19 @@ impl Generator {
                 line.remove(place);
             }
             16 => {
-                line.insert(1, self.random.pick(b"0RWELSOF"));
+                line.insert(1, self.random.pick(b"0RWELSOFPGQ"));
             }
+            // Saved bytes of a wrong length, or the bytes of a device for a sequencer, and the other
+            // way round.
             17 => {
-                let bytes = self.good_state();
-                line = self.load_line(&bytes);
-                match self.random.below(4) {
+                line = self.saved_line();
+                let bytes = (line.len() - 2) / 2;
+                match self.random.below(5) {
                     0 => line.truncate(line.len() - 2),
                     1 => line.truncate(line.len() - 1),
                     2 => line.extend_from_slice(b"00"),
-                    _ => {
-                        line.truncate(2 + 2 * self.random.below(state::STATE_BYTES as u32) as usize)
-                    }
+                    3 => line[0] = self.random.pick(b"LG"),
+                    _ => line.truncate(2 + 2 * self.random.below(bytes as u32) as usize),
                 }
             }
             18 => {
@@ -1400,6 +1416,19 @@ impl Generator {
                     b"Q 0 0 0 0 0 0 0 0 0",
                     b"Q 0 0 0 0 0 0 0 0 0 0 0",
                     b"Q 0 0 0 0 0 0 0 0 0 0",
+                    b"P",
+                    b"P ",
+                    b"P 0",
+                    b"P -",
+                    b"PP",
+                    b"p",
+                    b"G",
+                    b"G ",
+                    b"G 0",
+                    b"G 00",
+                    b"G -",
+                    b"G 0 0",
+                    b"g",
                     b"X",
                     b"X 0 0 - -",
                     b"X 0 0 -",
@@ -1442,7 +1471,7 @@ impl Generator {
                 .random
                 .pick(&[0x00, 0x0D, 0x09, 0x0B, 0x0C, 0x1A, 0x1B, 0x7F]),
             1 => self.random.byte() | 0x80,
-            2 => self.random.pick(b"RWEOSLFCQXTN- 0123456789ABCDEFabcdef"),
+            2 => self.random.pick(b"RWEOSLFCQPGXTN- 0123456789ABCDEFabcdef"),
             _ => self.random.byte(),
         };
         if byte == b'\n' {
@@ -1456,7 +1485,9 @@ impl Generator {
     /// that a reader that wrongly splits long lines gives another answer.
     fn long_line(&mut self) -> Vec<u8> {
         let filler = self.random.pick(b"0 AFx\0\xFF");
-        let head: &[u8] = self.random.pick(&[b"L ", b"E ", b"O ", b"S", b"R 1 ", b""]);
+        let head: &[u8] = self
+            .random
+            .pick(&[b"L ", b"G ", b"E ", b"O ", b"S", b"R 1 ", b""]);
         let length = match self.random.below(6) {
             0 => LINE_LIMIT - 1,
             1 => LINE_LIMIT,

@@ -72,29 +72,30 @@ impl Generator {
 
     // Sequencers.
 
-    /// A sequencer, mostly at a place inside the image.
-    fn aim_sequencer(&mut self, image: &[u8]) {
+    /// Sets a sequencer, or keeps the present one.
+    pub fn aim_sequencer(&mut self, image: &[u8]) {
+        if let Some(sequencer) = self.aimed_sequencer(image) {
+            self.put_sequencer(sequencer);
+        }
+    }
+
+    /// A sequencer, mostly at a place inside the image. Nothing means the present one, if its place is
+    /// inside the image.
+    pub fn aimed_sequencer(&mut self, image: &[u8]) -> Option<Sequencer> {
         let words = (image.len() / RECORD_BYTES) as u32;
         let place = self.random.below(words);
         let found = self.find_word(image, &[ENTER, LOOP_END, LOOP_END]);
-        match (self.random.below(24), found) {
-            (0..=2, _) => {
-                let sequencer = self.legal_sequencer(place);
-                self.put_sequencer(sequencer);
-            }
+        let sequencer = match (self.random.below(24), found) {
+            (0..=2, _) => self.legal_sequencer(place),
             (3, _) => {
                 let beyond = match self.random.below(3) {
                     0 => words,
                     1 => words + 1 + self.random.below(10),
                     _ => self.random.bits(32),
                 };
-                let sequencer = self.legal_sequencer(beyond);
-                self.put_sequencer(sequencer);
+                self.legal_sequencer(beyond)
             }
-            (4 | 5, _) => {
-                let sequencer = self.illegal_sequencer(place);
-                self.put_sequencer(sequencer);
-            }
+            (4 | 5, _) => self.illegal_sequencer(place),
             // Sometimes no counter for a loop end, or no free counter for an enter.
             (6..=8, Some(place)) => {
                 let used = match self.random.below(5) {
@@ -102,13 +103,12 @@ impl Generator {
                     1 => COUNTER_LIMIT as u32,
                     _ => 1 + self.random.below(COUNTER_LIMIT as u32 - 1),
                 };
-                let sequencer = self.sequencer_with(place as u32, used);
-                self.put_sequencer(sequencer);
+                self.sequencer_with(place as u32, used)
             }
-            // The present sequencer, if its place is inside this image.
-            (10..=12, _) if self.session.sequencer().place < words => {}
-            _ => self.put_sequencer(Sequencer::fresh()),
-        }
+            (10..=12, _) if self.session.sequencer().place < words => return None,
+            _ => Sequencer::fresh(),
+        };
+        Some(sequencer)
     }
 
     /// The place of a random word of these kinds.
@@ -139,23 +139,40 @@ impl Generator {
                 }
                 image
             }
-            5..=16 => {
-                let count = 1 + self.random.below(12);
-                scripts::encode(&self.any_words(count as usize))
-            }
-            17..=22 => {
-                let pattern = self.pattern();
-                scripts::encode(&pattern)
-            }
+            5..=16 => self.wild_image(),
+            17..=22 => self.pattern_image(),
             23..=38 => self.compiled_image(),
-            _ => {
-                let mut image = decode(&self.compiled_image());
-                for _ in 0..self.random.pick(&[1, 1, 1, 2, 3]) {
-                    self.damage_image(&mut image);
-                }
-                scripts::encode(&image)
-            }
+            _ => self.damaged_image(),
         }
+    }
+
+    /// An image whose run often ends with a fault. It is refused only if it is empty.
+    pub fn faulty_image(&mut self) -> Vec<u8> {
+        match self.random.below(12) {
+            0..=2 => self.wild_image(),
+            3..=6 => self.pattern_image(),
+            7 => self.compiled_image(),
+            _ => self.damaged_image(),
+        }
+    }
+
+    /// A few valid words in any order.
+    fn wild_image(&mut self) -> Vec<u8> {
+        let count = 1 + self.random.below(12);
+        scripts::encode(&self.any_words(count as usize))
+    }
+
+    fn pattern_image(&mut self) -> Vec<u8> {
+        let pattern = self.pattern();
+        scripts::encode(&pattern)
+    }
+
+    fn damaged_image(&mut self) -> Vec<u8> {
+        let mut image = decode(&self.compiled_image());
+        for _ in 0..self.random.pick(&[1, 1, 1, 2, 3]) {
+            self.damage_image(&mut image);
+        }
+        scripts::encode(&image)
     }
 
     fn compiled_image(&mut self) -> Vec<u8> {

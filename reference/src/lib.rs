@@ -14,6 +14,7 @@ pub mod nested;
 pub mod own_run;
 pub mod programs;
 pub mod random;
+pub mod resumed;
 pub mod runs;
 pub mod scripts;
 pub mod sequencer;
@@ -27,6 +28,8 @@ mod compiler_tests;
 mod nested_tests;
 #[cfg(test)]
 mod owner_tests;
+#[cfg(test)]
+mod resumed_tests;
 #[cfg(test)]
 mod run_tests;
 #[cfg(test)]

@@ -9,6 +9,7 @@ use std::process::ExitCode;
 use reference::generate::{self, Source, ANYTHING};
 use reference::images::IMAGES;
 use reference::nested::{self, NESTED};
+use reference::resumed::RESUMED;
 use reference::runs::RUNS;
 use reference::{scripts, stream};
 
@@ -16,9 +17,10 @@ const USAGE: &str = "\
 usage: reference answer                read commands on standard input, print the expected answers
        reference generate SEED COUNT   print COUNT random commands (both numbers decimal)
        reference scripts SEED COUNT    print COUNT random compile commands
-       reference runs SEED COUNT       print COUNT random commands, most of them run scripts
-       reference images SEED COUNT     print COUNT random commands, most of them run images
-       reference nested SEED COUNT     print COUNT random commands, most of them interpret scripts
+       reference runs SEED COUNT       print COUNT random commands, mostly runs of scripts
+       reference images SEED COUNT     print COUNT random commands, mostly runs of images
+       reference nested SEED COUNT     print COUNT random commands, mostly interpreted scripts
+       reference resumed SEED COUNT    print COUNT random commands, mostly runs in parts
        reference script SEED           write one random script as bytes
 ";
 
@@ -58,6 +60,7 @@ fn task(arguments: &[String]) -> Option<Task> {
         "runs" => &RUNS,
         "images" => &IMAGES,
         "nested" => &NESTED,
+        "resumed" => &RESUMED,
         "scripts" => return Some(Task::Scripts { seed, count }),
         _ => return None,
     };

@@ -80,8 +80,11 @@ impl Generator {
         self.on_broken_device(&[Generator::interpret_script]);
     }
 
-    /// A run with budget 0. Its answer shows the sequencer, which an `N` does not change.
+    /// A `P`, or a run with budget 0. Its answer shows the sequencer, which an `N` does not change.
     pub fn show_sequencer(&mut self) {
+        if self.random.one_in(2) {
+            return self.line(b"P");
+        }
         let image = Record::of_image(HALT).encode();
         let line = self.run_line('X', 0, 0, &[], &image);
         self.line(&line);

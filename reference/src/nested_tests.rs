@@ -13,8 +13,8 @@ use crate::own_run::{interpret, own_run, Lent, Refusal};
 use crate::owner_tests::byte_string;
 use crate::random::Random;
 use crate::run_tests::{
-    acpi_entries, answers, bytes, commands, compiled, delay, end, ended, fresh_state, hex,
-    if_timer, lines, or_else, outcomes, read, read_timer, record, repeat, run_from, write, LENT,
+    acpi_entries, all_outcomes, answers, bytes, commands, compiled, delay, end, ended, fresh_state,
+    hex, if_timer, lines, or_else, read, read_timer, record, repeat, run_from, write, LENT,
     NO_TICK, TICK,
 };
 use crate::runs::image_of;
@@ -138,7 +138,7 @@ fn the_end_of_an_if_costs_nothing() {
 
 /// A script with every kind of record and block, and what it does on the fresh device with the
 /// events of `MIXED_EVENTS`.
-fn mixed_script() -> [Record; 15] {
+pub(crate) fn mixed_script() -> [Record; 15] {
     [
         repeat(2),
         if_timer(1),
@@ -158,7 +158,7 @@ fn mixed_script() -> [Record; 15] {
     ]
 }
 
-const MIXED_EVENTS: [u32; 3] = [TICK, TICK, NO_TICK];
+pub(crate) const MIXED_EVENTS: [u32; 3] = [TICK, TICK, NO_TICK];
 
 /// The things that count a step, in order: E enter, L loop end, T test, J jump, R read, W write,
 /// D delay, H halt.
@@ -451,6 +451,9 @@ fn interpret_commands_leave_the_sequencer() {
                 answers(&format!("{held}\n{interpret}\nX 0 0 - {halt}")),
                 format!("SET\n{answer} {fresh}\n{show} {shown} {fresh}\n")
             );
+            let with_p = answers(&format!("{held}\nP\n{interpret}\nP"));
+            let printed: Vec<&str> = with_p.lines().collect();
+            assert_eq!(printed[1], printed[3]);
         }
     }
 }
@@ -461,7 +464,7 @@ const RANDOM_COMMANDS: u64 = 6_000;
 
 #[test]
 fn random_interpreted_scripts_end_in_every_way() {
-    let (endings, refusals) = outcomes(&NESTED, b"N ");
+    let (endings, refusals) = all_outcomes(&NESTED, b"N ");
     for number in [0, 19, 24] {
         assert!(endings[number] >= 400, "{number}: {endings:?}");
     }
@@ -634,8 +637,10 @@ fn is_behind_if(image: &[Record], place: usize) -> bool {
     aims_here(JUMP) || (aims_here(TEST) && !starts_else)
 }
 
-/// Answers the line as a `T`. The answer is that of the `N`, with the sequencer, which is returned.
+/// Answers the line as a `T` from a fresh sequencer. The answer is that of the `N`, with the
+/// sequencer, which is returned.
 fn compiled_answer(mut session: Session, line: &[u8], interpreted: &Reply) -> Sequencer {
+    session.answer(b"Q");
     let mut line = line.to_vec();
     line[0] = b'T';
     let answer = session.answer(&line).to_string();

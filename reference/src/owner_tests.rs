@@ -9,6 +9,7 @@ use crate::device::{Access, Action, Answer, Device, Owner};
 use crate::generate::{Source, ANYTHING};
 use crate::images::IMAGES;
 use crate::nested::NESTED;
+use crate::resumed::RESUMED;
 use crate::run_tests::{
     answers_to, commands, compiled, end, entry, lines, read, read_timer, record, run_from,
     run_script_on, write, LENT, NO_TICK,
@@ -557,6 +558,7 @@ impl Walk {
         let bytes = byte_string(words[4]);
         let (image, sequencer) = match words[0] {
             b"X" => (bytes, sequencer),
+            b"T" => (image_of(&bytes), sequencer),
             _ => (image_of(&bytes), Sequencer::fresh()),
         };
         let event_bytes = byte_string(words[3]);
@@ -614,7 +616,7 @@ impl Walk {
     }
 }
 
-fn number(word: &[u8]) -> u32 {
+pub(crate) fn number(word: &[u8]) -> u32 {
     let digits = str::from_utf8(word).expect("digits");
     u32::from_str_radix(digits, 16).expect("a number")
 }
@@ -651,6 +653,7 @@ fn printed_owners() {
         (&RUNS, 500),
         (&IMAGES, 500),
         (&NESTED, 500),
+        (&RESUMED, 500),
     ] {
         let commands = commands(source, 2, count);
         let answers = answers_to(&commands);

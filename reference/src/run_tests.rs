@@ -9,10 +9,11 @@ use crate::generate::{self, Source};
 use crate::images::IMAGES;
 use crate::nested::NESTED;
 use crate::own_run::own_run;
+use crate::resumed::RESUMED;
 use crate::runs::RUNS;
 use crate::sequencer::{run, Ended, Ending, Lent, Refusal, Sequencer};
 use crate::state;
-use crate::stream::{self, LINE_LIMIT};
+use crate::stream::{self, Session, LINE_LIMIT};
 
 pub(crate) const NO_TICK: u32 = 0x0100_0000;
 pub(crate) const TICK: u32 = 0x0100_0001;
@@ -28,7 +29,7 @@ pub(crate) fn record(kind: u8, width: u8, port: u16, value: u32) -> Record {
     }
 }
 
-fn word(kind: u8, width: u8, port: u16, target: u16, value: u32) -> Record {
+pub(crate) fn word(kind: u8, width: u8, port: u16, target: u16, value: u32) -> Record {
     Record {
         width,
         port,
@@ -75,23 +76,23 @@ pub(crate) fn if_timer(mask: u32) -> Record {
     record(IF, 4, 0xAC18, mask)
 }
 
-fn enter(times: u32, target: u16) -> Record {
+pub(crate) fn enter(times: u32, target: u16) -> Record {
     word(ENTER, 0, 0, target, times)
 }
 
-fn loop_end(target: u16) -> Record {
+pub(crate) fn loop_end(target: u16) -> Record {
     word(LOOP_END, 0, 0, target, 0)
 }
 
-fn jump(target: u16) -> Record {
+pub(crate) fn jump(target: u16) -> Record {
     word(JUMP, 0, 0, target, 0)
 }
 
-fn halt() -> Record {
+pub(crate) fn halt() -> Record {
     word(HALT, 0, 0, 0, 0)
 }
 
-fn timer_word() -> Record {
+pub(crate) fn timer_word() -> Record {
     word(READ, 4, 0xAC18, 0, 0)
 }
 
@@ -106,7 +107,7 @@ pub(crate) fn compiled(script: &[Record]) -> Vec<u8> {
     image
 }
 
-fn sequencer(place: u32, counters: &[u32]) -> Sequencer {
+pub(crate) fn sequencer(place: u32, counters: &[u32]) -> Sequencer {
     let mut sequencer = Sequencer {
         place,
         used: counters.len() as u32,
@@ -121,7 +122,7 @@ fn sequencer(place: u32, counters: &[u32]) -> Sequencer {
 pub(crate) struct Left {
     pub outcome: Result<Ended, Refusal>,
     pub device: Device,
-    sequencer: Sequencer,
+    pub sequencer: Sequencer,
     pub log: Vec<u64>,
     pub accesses: Vec<Access>,
 }
@@ -804,7 +805,7 @@ fn run_commands_that_are_refused() {
     assert_eq!(refused(&format!("T 9 0 00000000 {open}")), with("7 2", ""));
     let long = hex(&bytes(&vec![write(0x2E, 0); 1_024]));
     assert_eq!(refused(&format!("T 9 0 - {long}")), with("8 1024", ""));
-    // A state out of range. The sequencer of a `T` is a fresh one.
+    // A device out of range.
     let mut device = Device::fresh();
     device.acpi.timer = 1 << 24;
     let broken = hex(&state::encode(&device));
@@ -815,11 +816,16 @@ fn run_commands_that_are_refused() {
              REFUSED 10 0 0 0 0 0 0 0 0 0 0 0 {broken}\n"
         )
     );
+    // A sequencer out of range, until another one is set.
     let illegal = "5 9 1 1 1 1 1 1 1 1";
+    let refused = format!("REFUSED 11 0 {illegal} {fresh}");
     assert_eq!(
-        answers(&format!("Q {illegal}\nX 9 0 - {halt}\nT 9 0 - -\nF")),
+        answers(&format!(
+            "Q {illegal}\nX 9 0 - {halt}\nT 9 0 00000000 -\nT 9 0 - {open}\nQ\nT 9 0 - -"
+        )),
         format!(
-            "SET\nREFUSED 11 0 {illegal} {fresh}\nENDED 0 1 0 0 0 0 0 0 0 0 0 0 0 0 {fresh}\nFRESH\n"
+            "SET\n{refused}\n{refused}\nREFUSED 7 2 {illegal} {fresh}\nSET\n\
+             ENDED 0 1 0 0 0 0 0 0 0 0 0 0 0 0 {fresh}\n"
         )
     );
 }
@@ -892,19 +898,25 @@ pub(crate) fn lines(commands: &[u8]) -> impl Iterator<Item = &[u8]> {
     commands.split(|byte| *byte == b'\n')
 }
 
-/// Counts, by their numbers, how often each ending and each refusal answers these commands.
-pub(crate) fn outcomes(source: &'static Source, counted: &[u8]) -> ([u32; 25], [u32; 25]) {
-    let commands = commands(source, 1, 6_000);
-    let answers = answers_to(&commands);
-    let (mut endings, mut refusals) = ([0; 25], [0; 25]);
-    for (command, answer) in lines(&commands).zip(answers.lines()) {
+/// How often each ending and each refusal answers some commands, by their numbers.
+pub(crate) type Outcomes = ([u32; 25], [u32; 25]);
+
+/// Counts the outcomes of these commands: first of those that start from a fresh sequencer, then of
+/// the others.
+pub(crate) fn outcomes(source: &'static Source, counted: &[u8], count: u64) -> [Outcomes; 2] {
+    let mut outcomes = [([0; 25], [0; 25]); 2];
+    let mut session = Session::new();
+    for command in lines(&commands(source, 1, count)) {
+        let fresh = *session.sequencer() == Sequencer::fresh();
+        let answer = session.answer(command).to_string();
         if !command.starts_with(counted) {
             continue;
         }
+        let (endings, refusals) = &mut outcomes[usize::from(!fresh)];
         let mut words = answer.split(' ');
         let counts = match words.next() {
-            Some("ENDED") => &mut endings,
-            Some("REFUSED") => &mut refusals,
+            Some("ENDED") => endings,
+            Some("REFUSED") => refusals,
             _ => continue,
         };
         let number: usize = words
@@ -913,12 +925,23 @@ pub(crate) fn outcomes(source: &'static Source, counted: &[u8]) -> ([u32; 25], [
             .expect("a number");
         counts[number] += 1;
     }
+    outcomes
+}
+
+/// The outcomes of commands from any sequencer.
+pub(crate) fn all_outcomes(source: &'static Source, counted: &[u8]) -> Outcomes {
+    let [(mut endings, mut refusals), (other_endings, other_refusals)] =
+        outcomes(source, counted, 6_000);
+    for number in 0..25 {
+        endings[number] += other_endings[number];
+        refusals[number] += other_refusals[number];
+    }
     (endings, refusals)
 }
 
 #[test]
 fn random_scripts_end_in_every_way() {
-    let (endings, refusals) = outcomes(&RUNS, b"T ");
+    let [(endings, refusals), (resumed, refused)] = outcomes(&RUNS, b"T ", 12_000);
     assert!(endings[0] >= 2_000, "{endings:?}");
     for number in [19, 24] {
         assert!(endings[number] >= 300, "{number}: {endings:?}");
@@ -933,12 +956,21 @@ fn random_scripts_end_in_every_way() {
     // A compiled image that starts from a fresh sequencer has no other endings.
     let named: u32 = [0, 19, 24].iter().map(|number| endings[*number]).sum();
     assert_eq!(named, endings.iter().sum(), "{endings:?}");
-    assert_eq!((refusals[9], refusals[10]), (0, 0));
+    // From another sequencer its place can be beyond the last word, an enter can find no free counter,
+    // and a loop end can find none in use. No word is bad.
+    for (number, least) in [(0, 30), (19, 20), (21, 50), (22, 3), (23, 30), (24, 5)] {
+        assert!(resumed[number] >= least, "{number}: {resumed:?}");
+    }
+    assert_eq!(resumed[20], 0);
+    assert!(refused[11] >= 20, "{refused:?}");
+    for refusals in [refusals, refused] {
+        assert_eq!((refusals[9], refusals[10]), (0, 0));
+    }
 }
 
 #[test]
 fn random_images_end_in_every_way() {
-    let (endings, refusals) = outcomes(&IMAGES, b"X ");
+    let (endings, refusals) = all_outcomes(&IMAGES, b"X ");
     for number in [0, 19, 20, 21, 22, 23, 24] {
         assert!(endings[number] >= 100, "{number}: {endings:?}");
     }
@@ -949,7 +981,7 @@ fn random_images_end_in_every_way() {
 
 #[test]
 fn random_runs_are_as_many_as_asked_for() {
-    for source in [&RUNS, &IMAGES, &NESTED] {
+    for source in [&RUNS, &IMAGES, &NESTED, &RESUMED] {
         for seed in 0..6 {
             for count in [0, 1, 2, 150] {
                 let commands = commands(source, seed, count);

@@ -1,14 +1,17 @@
 //! Random commands that run scripts, mostly valid ones, and functions that all random runs use.
 
+use std::array;
+
 use crate::compiler::{self, RECORD_BYTES, WORD_LIMIT};
 use crate::generate::{Generator, Scenario, Source};
 use crate::own_run::{own_run, OwnRun};
 use crate::programs::Programs;
 use crate::scripts;
 use crate::sequencer::{self, Sequencer, COUNTER_LIMIT, COUNT_LIMIT, EVENT_LIMIT};
+use crate::state;
 use crate::stream::{COMPILE_LIMIT, EVENTS_READ, LOG_LIMIT, OWN_RUN_STEPS};
 
-/// Mostly `T`, on devices of all kinds.
+/// Mostly `T`, on devices of all kinds, and mostly with a fresh sequencer set before it.
 pub const RUNS: Source = Source {
     scenarios: &[
         (100, Generator::run_script),
@@ -44,8 +47,19 @@ impl Generator {
     pub fn run_script(&mut self) {
         let script = self.script_to_run();
         let events = self.event_list(40, script.len() < SHORT_SCRIPT);
+        self.choose_start(&script);
         let line = self.script_line('T', &events, &script);
         self.line(&line);
+    }
+
+    /// A `T` starts from the present sequencer. Mostly that is a fresh one, set before it. Sometimes
+    /// it is the one that the last run left, or one in the middle of the script.
+    fn choose_start(&mut self, script: &[u8]) {
+        match self.random.below(16) {
+            0 => {}
+            1 => self.aim_sequencer(&image_of(script)),
+            _ => self.put_sequencer(Sequencer::fresh()),
+        }
     }
 
     pub fn script_to_run(&mut self) -> Vec<u8> {
@@ -94,8 +108,8 @@ impl Generator {
         }
     }
 
-    /// For a script that is refused, or whose run is very long or never ends. The budget keeps the
-    /// run short.
+    /// For a script that is refused, whose run is very long or never ends, or that does not start
+    /// from a fresh sequencer. The budget keeps the run short.
     pub fn short_budget_line(&mut self, command: char, events: &[u32], script: &[u8]) -> Vec<u8> {
         let budget = match self.random.below(3) {
             0 => self.random.pick(&[0, 1, 2, 100, LONGEST_BUDGET]),
@@ -108,7 +122,12 @@ impl Generator {
     /// Budget and log are mostly large enough. Sometimes they are exactly large enough, or too
     /// small.
     fn script_line(&mut self, command: char, events: &[u32], script: &[u8]) -> Vec<u8> {
-        let Some(own) = self.whole_run(events, script) else {
+        let from_start = command == 'N' || *self.session.sequencer() == Sequencer::fresh();
+        let own = match from_start {
+            true => self.whole_run(events, script),
+            false => None,
+        };
+        let Some(own) = own else {
             return self.short_budget_line(command, events, script);
         };
         let steps = u32::try_from(own.steps).expect("the run is within the step limit");
@@ -174,14 +193,19 @@ impl Generator {
             0 => self.random.bits(32),
             _ => self.random.below(12),
         };
-        let sequencer = match self.random.below(4) {
+        let sequencer = match self.random.below(9) {
             0 => Sequencer::fresh(),
-            1 => self.illegal_sequencer(place),
+            1..=3 => self.illegal_sequencer(place),
+            4 => self.any_sequencer(),
             _ => self.legal_sequencer(place),
         };
         self.put_sequencer(sequencer);
+        if self.random.one_in(2) {
+            self.line(b"P");
+        }
     }
 
+    /// Sets the sequencer with `Q`, or loads its saved bytes with `G`.
     pub fn put_sequencer(&mut self, sequencer: Sequencer) {
         let line = self.sequencer_line(sequencer);
         self.line(&line);
@@ -190,6 +214,9 @@ impl Generator {
     fn sequencer_line(&mut self, sequencer: Sequencer) -> Vec<u8> {
         if sequencer == Sequencer::fresh() && !self.random.one_in(4) {
             return b"Q".to_vec();
+        }
+        if self.random.one_in(2) {
+            return self.load_sequencer_line(&sequencer);
         }
         let mut line = String::from("Q");
         for number in [sequencer.place, sequencer.used]
@@ -200,6 +227,20 @@ impl Generator {
             line.push_str(&self.random.writing(*number));
         }
         line.into_bytes()
+    }
+
+    pub fn load_sequencer_line(&mut self, sequencer: &Sequencer) -> Vec<u8> {
+        let bytes = state::encode_sequencer(sequencer);
+        format!("G {}", self.random.digits(&bytes)).into_bytes()
+    }
+
+    /// Ten numbers of any size. Almost always they are out of range.
+    fn any_sequencer(&mut self) -> Sequencer {
+        Sequencer {
+            place: self.random.bits(32),
+            used: self.random.bits(32),
+            counters: array::from_fn(|_| self.random.bits(32)),
+        }
     }
 
     pub fn legal_sequencer(&mut self, place: u32) -> Sequencer {

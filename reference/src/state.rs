@@ -1,13 +1,20 @@
-//! The saved state of a device as bytes (docs/STATE.md).
+//! The saved states of a device and of a sequencer as bytes (docs/STATE.md).
+
+use std::array;
 
 use crate::acpi::{Acpi, PIN_COUNT};
 use crate::configuration::{Configuration, KEY_BYTES};
 use crate::device::Device;
 use crate::monitor::{Monitor, REGISTER_COUNT};
+use crate::sequencer::Sequencer;
 
 pub const STATE_BYTES: usize = 106;
 
 pub type StateBytes = [u8; STATE_BYTES];
+
+pub const SEQUENCER_BYTES: usize = 40;
+
+pub type SequencerBytes = [u8; SEQUENCER_BYTES];
 
 // Offsets of the fields. Numbers of two and four bytes are stored low byte first, the two bases
 // high byte first.
@@ -142,5 +149,29 @@ fn flag(byte: u8) -> Option<bool> {
         0 => Some(false),
         1 => Some(true),
         _ => None,
+    }
+}
+
+/// The place, the number of counters in use and the eight counters: four bytes each, low byte first.
+pub fn encode_sequencer(sequencer: &Sequencer) -> SequencerBytes {
+    let mut bytes = [0; SEQUENCER_BYTES];
+    let (fields, _) = bytes.as_chunks_mut();
+    let numbers = [sequencer.place, sequencer.used]
+        .into_iter()
+        .chain(sequencer.counters);
+    for (field, number) in fields.iter_mut().zip(numbers) {
+        *field = number.to_le_bytes();
+    }
+    bytes
+}
+
+/// Any bytes are those of a sequencer, in range or not.
+pub fn decode_sequencer(bytes: &SequencerBytes) -> Sequencer {
+    let (fields, _) = bytes.as_chunks();
+    let number = |field: usize| u32::from_le_bytes(fields[field]);
+    Sequencer {
+        place: number(0),
+        used: number(1),
+        counters: array::from_fn(|counter| number(2 + counter)),
     }
 }

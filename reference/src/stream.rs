@@ -9,7 +9,7 @@ use crate::compiler::{self, RECORD_BYTES, WORD_LIMIT};
 use crate::device::{Access, Answer, Device, Outputs, Refusal};
 use crate::own_run::{self, own_run, OwnRun};
 use crate::sequencer::{self, Ended, Ending, Lent, Observer, Sequencer, COUNTER_LIMIT};
-use crate::state::{self, StateBytes};
+use crate::state::{self, SequencerBytes, StateBytes};
 
 /// A line may have at most this many bytes before its line feed.
 pub const LINE_LIMIT: usize = 65_536;
@@ -56,7 +56,9 @@ enum Command {
     Load(Box<StateBytes>),
     Fresh,
     Compile { length: usize, script: Vec<u8> },
-    Sequencer(Sequencer),
+    SetSequencer(Sequencer),
+    Sequencer,
+    LoadSequencer(Box<SequencerBytes>),
     RunImage(Request),
     RunScript(Request),
     Interpret(Request),
@@ -103,12 +105,14 @@ impl Command {
                 length: buffer_length(length)?,
                 script: script_bytes(script)?,
             }),
-            [b"Q"] => Some(Command::Sequencer(Sequencer::fresh())),
-            [b"Q", place, used, counters @ ..] => Some(Command::Sequencer(Sequencer {
+            [b"Q"] => Some(Command::SetSequencer(Sequencer::fresh())),
+            [b"Q", place, used, counters @ ..] => Some(Command::SetSequencer(Sequencer {
                 place: number(place)?,
                 used: number(used)?,
                 counters: eight_numbers(counters)?,
             })),
+            [b"P"] => Some(Command::Sequencer),
+            [b"G", digits] => Some(Command::LoadSequencer(Box::new(sequencer_bytes(digits)?))),
             [b"X", budget, size, events, image] => Some(Command::RunImage(Request::parse(
                 budget, size, events, image,
             )?)),
@@ -168,6 +172,11 @@ fn state_bytes(word: &[u8]) -> Option<StateBytes> {
     byte_string(word)?.try_into().ok()
 }
 
+/// A byte string that is exactly as long as a saved sequencer.
+fn sequencer_bytes(word: &[u8]) -> Option<SequencerBytes> {
+    byte_string(word)?.try_into().ok()
+}
+
 fn buffer_length(word: &[u8]) -> Option<usize> {
     let length = usize::try_from(number(word)?).ok()?;
     (length <= COMPILE_LIMIT).then_some(length)
@@ -220,12 +229,14 @@ pub enum Reply {
     Refused(Refusal),
     Outputs(Outputs),
     State(Box<StateBytes>),
+    /// A device or a sequencer was loaded.
     Loaded,
     Fresh,
     /// The result of the compiler, and the whole buffer after it.
     Compiled(Result<usize, compiler::Refusal>, Vec<u8>),
     /// The sequencer was set.
     Set,
+    Sequencer(Box<SequencerBytes>),
     Ran(Box<Ran>),
     Interpreted(Box<Interpreted>),
     Unread,
@@ -366,6 +377,10 @@ impl fmt::Display for Reply {
                 write_bytes(line, image)
             }
             Reply::Set => line.write_str("SET"),
+            Reply::Sequencer(bytes) => {
+                line.write_str("SEQUENCER ")?;
+                write_bytes(line, bytes.as_slice())
+            }
             Reply::Ran(ran) => ran.fmt(line),
             Reply::Interpreted(interpreted) => interpreted.fmt(line),
             Reply::Unread => line.write_str("UNREAD"),
@@ -445,9 +460,17 @@ impl Session {
                 let outcome = compiler::compile(&script, &mut image);
                 Ok(Reply::Compiled(outcome, image))
             }
-            Command::Sequencer(sequencer) => {
+            Command::SetSequencer(sequencer) => {
                 self.sequencer = sequencer;
                 Ok(Reply::Set)
+            }
+            Command::Sequencer => {
+                let bytes = state::encode_sequencer(&self.sequencer);
+                Ok(Reply::Sequencer(Box::new(bytes)))
+            }
+            Command::LoadSequencer(bytes) => {
+                self.sequencer = state::decode_sequencer(&bytes);
+                Ok(Reply::Loaded)
             }
             Command::RunImage(request) => {
                 let mut log = request.log();
@@ -455,11 +478,13 @@ impl Session {
                 Ok(self.ran(outcome, log))
             }
             Command::RunScript(request) => {
-                let (left, sequencer) = self.both_ways(&request);
+                let (left, sequencer) = match self.sequencer == Sequencer::fresh() {
+                    true => self.both_ways(&request),
+                    // The interpreter always starts at the beginning of the script.
+                    false => Left::of_image(&self.device, self.sequencer, &request),
+                };
                 self.device = left.device;
-                if left.outcome.is_ok() {
-                    self.sequencer = sequencer;
-                }
+                self.sequencer = sequencer;
                 Ok(self.ran(left.outcome, left.log))
             }
             // The sequencer of the compiled script is not used any further.
@@ -495,11 +520,12 @@ impl Session {
         Ok(ended)
     }
 
-    /// Interprets a script, and also compiles it and runs its image. Panics if the two differ.
-    /// Returns what the interpreter leaves, and the sequencer after the run of the image.
+    /// Interprets a script, and also compiles it and runs its image from a fresh sequencer. Panics if
+    /// the two differ. Returns what the interpreter leaves, and the sequencer after the run of the
+    /// image.
     fn both_ways(&self, request: &Request) -> (Left, Sequencer) {
         let by_records = Left::of_interpreter(&self.device, request);
-        let (by_words, sequencer) = Left::of_image(&self.device, request);
+        let (by_words, sequencer) = Left::of_image(&self.device, Sequencer::fresh(), request);
         by_records.check_same(&by_words);
         if let Ok(ended) = &by_records.outcome {
             by_records.check_own_run(ended, &self.device, request);
@@ -558,12 +584,11 @@ impl Left {
         }
     }
 
-    /// Compiles the script and runs its image. Also returns the sequencer, which starts as a fresh
-    /// one.
-    fn of_image(device: &Device, request: &Request) -> (Left, Sequencer) {
+    /// Compiles the script and runs its image from this sequencer. Also returns the sequencer after
+    /// the run, which is the same one after a refusal.
+    fn of_image(device: &Device, mut sequencer: Sequencer, request: &Request) -> (Left, Sequencer) {
         let (mut device, mut log) = (device.clone(), request.log());
         let mut accesses = Accesses::default();
-        let mut sequencer = Sequencer::fresh();
         let mut image = [0; WORD_LIMIT * RECORD_BYTES];
         let compiled = compiler::compile(&request.bytes, &mut image).map_err(RunRefusal::from);
         let outcome = compiled.and_then(|words| {

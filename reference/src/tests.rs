@@ -634,6 +634,13 @@ fn stream_lines() {
         "L ",
         "L 00",
         "L 0",
+        "P ",
+        "P 0",
+        "PP",
+        "p",
+        "G",
+        "G ",
+        "G 00",
         "\0",
         "X",
         "W 1 2E 55 0",
@@ -733,7 +740,8 @@ fn only_done_accesses_change_the_state() {
             | Reply::Outputs(_)
             | Reply::State(_)
             | Reply::Compiled(..)
-            | Reply::Set => {
+            | Reply::Set
+            | Reply::Sequencer(_) => {
                 assert_eq!(session.device(), &settled);
             }
             Reply::Ran(ran) if ran.outcome.is_err() => assert_eq!(session.device(), &settled),
@@ -753,7 +761,7 @@ fn only_done_accesses_change_the_state() {
 fn random_ticks_reach_both_timer_changes() {
     for (source, count, least) in [
         (&ANYTHING, 20_000, 30),
-        (&RUNS, 2_000, 20),
+        (&RUNS, 4_000, 20),
         (&IMAGES, 2_000, 8),
         (&NESTED, 2_000, 20),
     ] {
