@@ -284,15 +284,15 @@ static void numbers(void)
 }
 
 /* Refusals 1 to 9 of a script, from the compiler and from the interpreter. */
-static void check_script(lent *lent, uint32_t number, uint32_t place)
+static void check_script(lent *call, uint32_t number, uint32_t place)
 {
-    check_refused_compile(lent, RUNNELOPAL_IMAGE_BYTES, number, place);
-    check_refused_interpretation(lent, number, place);
+    check_refused_compile(call, RUNNELOPAL_IMAGE_BYTES, number, place);
+    check_refused_interpretation(call, number, place);
     /* The script comes before the device and the events, and before the length of the buffer. */
-    check_refused_compile(lent, 0, number, place);
-    lent->device[0] = 2;
-    lent->events[0] = 0;
-    check_refused_interpretation(lent, number, place);
+    check_refused_compile(call, 0, number, place);
+    call->device[0] = 2;
+    call->events[0] = 0;
+    check_refused_interpretation(call, number, place);
 }
 
 static void script_lengths(void)
@@ -672,25 +672,25 @@ static void endings(void)
 
 /* ---- Events and outputs. The script runs as an image and is interpreted, with the same result. */
 
-static runnelopal_run_answer both(lent *lent)
+static runnelopal_run_answer both(lent *call)
 {
     static struct lent_copy { uint8_t device[DEVICE + 8]; uint64_t log[16]; } before, interpreted;
-    memcpy(before.device, lent->device, sizeof before.device);
-    memcpy(before.log, lent->log, sizeof before.log);
-    runnelopal_run_answer answer = interpret(lent);
-    memcpy(interpreted.device, lent->device, sizeof before.device);
-    memcpy(interpreted.log, lent->log, sizeof before.log);
-    memcpy(lent->device, before.device, sizeof before.device);
-    memcpy(lent->log, before.log, sizeof before.log);
-    CHECK(compile(lent).refusal == 0);
-    runnelopal_fresh_sequencer(lent->sequencer, SEQUENCER);
-    runnelopal_run_answer answered = run(lent);
+    memcpy(before.device, call->device, sizeof before.device);
+    memcpy(before.log, call->log, sizeof before.log);
+    runnelopal_run_answer answer = interpret(call);
+    memcpy(interpreted.device, call->device, sizeof before.device);
+    memcpy(interpreted.log, call->log, sizeof before.log);
+    memcpy(call->device, before.device, sizeof before.device);
+    memcpy(call->log, before.log, sizeof before.log);
+    CHECK(compile(call).refusal == 0);
+    runnelopal_fresh_sequencer(call->sequencer, SEQUENCER);
+    runnelopal_run_answer answered = run(call);
     CHECK(same_answer(answer, answered));
-    CHECK(memcmp(interpreted.device, lent->device, sizeof before.device) == 0 && memcmp(interpreted.log, lent->log, sizeof before.log) == 0);
-    runnelopal_outputs_answer outputs = runnelopal_outputs(lent->device, DEVICE);
+    CHECK(memcmp(interpreted.device, call->device, sizeof before.device) == 0 && memcmp(interpreted.log, call->log, sizeof before.log) == 0);
+    runnelopal_outputs_answer outputs = runnelopal_outputs(call->device, DEVICE);
     CHECK(outputs.refusal == 0 && levels(outputs.outputs, answered.outputs.sci, answered.outputs.smi, answered.outputs.monitor));
-    lent->script.length = 0;
-    lent->event_count = 0;
+    call->script.length = 0;
+    call->event_count = 0;
     return answered;
 }
 
@@ -811,28 +811,28 @@ static void single_calls(void)
 }
 
 /* A script with every kind of record, and an event for some of its accesses. */
-static void put_mixed_script(lent *lent)
+static void put_mixed_script(lent *call)
 {
-    fresh(lent);
-    write_record(&lent->script, 2, PM1A_EN, RTC_STS);
-    record(&lent->script, RUNNELOPAL_SCRIPT_REPEAT, 0, 0, 2);
-    record(&lent->script, RUNNELOPAL_SCRIPT_REPEAT, 0, 0, 2);
-    record(&lent->script, RUNNELOPAL_SCRIPT_DELAY, 0, 0, 9);
-    record(&lent->script, RUNNELOPAL_SCRIPT_IF, 2, PM1A_STS, RTC_STS);
-    write_record(&lent->script, 2, PM1A_STS, RTC_STS);
-    record(&lent->script, RUNNELOPAL_SCRIPT_ELSE, 0, 0, 0);
-    read_record(&lent->script, 4, TIMER);
-    record(&lent->script, RUNNELOPAL_SCRIPT_END, 0, 0, 0);
-    record(&lent->script, RUNNELOPAL_SCRIPT_END, 0, 0, 0);
-    record(&lent->script, RUNNELOPAL_SCRIPT_END, 0, 0, 0);
-    read_record(&lent->script, 2, PM1A_STS);
-    lent->events[0] = NO_TICKS;
-    lent->events[1] = ALARM;
-    lent->events[2] = RUNNELOPAL_EVENT(RUNNELOPAL_EVENT_TICKS, 100);
-    lent->events[3] = NO_TICKS;
-    lent->events[4] = ALARM;
-    lent->event_count = 5;
-    CHECK(compile(lent).refusal == 0);
+    fresh(call);
+    write_record(&call->script, 2, PM1A_EN, RTC_STS);
+    record(&call->script, RUNNELOPAL_SCRIPT_REPEAT, 0, 0, 2);
+    record(&call->script, RUNNELOPAL_SCRIPT_REPEAT, 0, 0, 2);
+    record(&call->script, RUNNELOPAL_SCRIPT_DELAY, 0, 0, 9);
+    record(&call->script, RUNNELOPAL_SCRIPT_IF, 2, PM1A_STS, RTC_STS);
+    write_record(&call->script, 2, PM1A_STS, RTC_STS);
+    record(&call->script, RUNNELOPAL_SCRIPT_ELSE, 0, 0, 0);
+    read_record(&call->script, 4, TIMER);
+    record(&call->script, RUNNELOPAL_SCRIPT_END, 0, 0, 0);
+    record(&call->script, RUNNELOPAL_SCRIPT_END, 0, 0, 0);
+    record(&call->script, RUNNELOPAL_SCRIPT_END, 0, 0, 0);
+    read_record(&call->script, 2, PM1A_STS);
+    call->events[0] = NO_TICKS;
+    call->events[1] = ALARM;
+    call->events[2] = RUNNELOPAL_EVENT(RUNNELOPAL_EVENT_TICKS, 100);
+    call->events[3] = NO_TICKS;
+    call->events[4] = ALARM;
+    call->event_count = 5;
+    CHECK(compile(call).refusal == 0);
 }
 
 /* A budget of a and then of b gives the same as one of a + b, if the first run ended with 19. */
