@@ -23,6 +23,7 @@ impl Row {
         match &self.work {
             Work::Compile { script, times } => ((script.len() / 12 * times) as u64, "record"),
             Work::Run { times, .. } | Work::Interpret { times, .. } => (done.numbers[1] * *times as u64, "step"),
+            Work::Parts { .. } => (done.numbers[1], "step"),
             Work::Accesses { list, times, .. } => ((list.len() * times) as u64, "access"),
             Work::Events { list, times, .. } => ((list.len() * times) as u64, "event"),
         }
@@ -34,6 +35,7 @@ impl Row {
             Work::Compile { .. } => "image cleared",
             Work::Run { log: 0, .. } | Work::Interpret { log: 0, .. } => "no log",
             Work::Run { .. } | Work::Interpret { .. } => "log cleared",
+            Work::Parts { .. } => "no log",
             Work::Accesses { .. } | Work::Events { .. } => "no buffer",
         }
     }
@@ -45,6 +47,8 @@ pub const FAILED_TEST: &str = "failed test";
 const COMPILE: &str = "Compile, 1,023 records";
 const RUN: &str = "Runs";
 const INTERPRET: &str = "The interpreter, beside our run of the compiled image and the model's interpreter";
+const PARTS: &str = "Runs in parts: ours load and save the bytes of device and sequencer at each call, theirs keep structs";
+const PARTS_BYTES: &str = "Runs in parts: both load and save the bytes of device and sequencer at each call";
 const SINGLE: &str = "Single calls: ours load and save the state's bytes at each call, theirs keep a struct";
 const SINGLE_BYTES: &str = "Single calls: both load and save the state's bytes at each call";
 const COMPILE_GROWTH: &str = "How a compile grows";
@@ -110,6 +114,24 @@ fn failed_tests(size: Size) -> Vec<Row> {
         .collect()
 }
 
+/// A run of the register set-ups that is resumed after each part, and ended by the budget.
+fn parts(size: Size) -> Vec<Row> {
+    let image = inputs::looped(&[65_535, 65_535], inputs::set_up).image();
+    let small = |whole: u32, part: u32| if size == Size::Full { whole } else { part };
+    let row = |group, part: u32, budget, held, from: &str| Row {
+        group,
+        name: format!("register set-ups, in parts of {part} step{}{from}", if part == 1 { "" } else { "s" }),
+        work: Work::Parts { image: image.clone(), part, budget, held },
+    };
+    let (long, short) = (small(2_000_000, 100_000), small(200_000, 10_000));
+    vec![
+        row(PARTS, 100, long, Held::Struct, ""),
+        row(PARTS, 1, short, Held::Struct, ""),
+        row(PARTS_BYTES, 100, long, Held::Bytes, ", from bytes"),
+        row(PARTS_BYTES, 1, short, Held::Bytes, ", from bytes"),
+    ]
+}
+
 pub fn rows(size: Size) -> Vec<Row> {
     let full = size == Size::Full;
     let small = |whole: u32, part: u32| if full { whole } else { part };
@@ -125,6 +147,7 @@ pub fn rows(size: Size) -> Vec<Row> {
     rows.extend(runs.into_iter().map(|(row, _)| row));
     rows.extend(interpreted);
     rows.extend(failed_tests(size));
+    rows.extend(parts(size));
 
     let single_times = small(20_000, 500) as usize;
     let access = |group, name: &str, list: Vec<_>, held| Row {

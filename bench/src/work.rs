@@ -5,7 +5,7 @@ use std::hint::black_box;
 use reference::compiler;
 use reference::device::Device;
 use reference::own_run;
-use reference::sequencer::{self, Lent, Sequencer};
+use reference::sequencer::{self, Ended, Lent, Sequencer};
 use reference::state;
 
 #[derive(Clone, Copy, Debug, PartialEq, Eq)]
@@ -35,7 +35,7 @@ pub struct Access {
     pub written: Option<u32>,
 }
 
-/// How the model keeps its device between single calls. The library always loads and saves the bytes.
+/// How the model keeps its device and its sequencer between calls. The library always loads and saves the bytes.
 #[derive(Clone, Copy, PartialEq, Eq)]
 pub enum Held {
     Struct,
@@ -45,10 +45,12 @@ pub enum Held {
 pub enum Work {
     /// Compiles the script this many times.
     Compile { script: Vec<u8>, times: usize },
-    /// Runs the image this many times, each time on a fresh device.
+    /// Runs the image this many times, each time on a fresh device, from a fresh sequencer.
     Run { image: Vec<u8>, events: Vec<u32>, budget: u32, log: usize, times: usize },
     /// Interprets the script this many times, each time on a fresh device. The third side runs the image.
     Interpret { script: Vec<u8>, image: Vec<u8>, events: Vec<u32>, budget: u32, log: usize, times: usize },
+    /// Runs the image once, in calls of `part` steps, each of which resumes the run where the call before it stopped. It ends after `budget` steps.
+    Parts { image: Vec<u8>, part: u32, budget: u32, held: Held },
     /// Goes through the list this many times on one device, which starts from the given state.
     Accesses { start: state::StateBytes, list: Vec<Access>, times: usize, held: Held },
     Events { start: state::StateBytes, list: Vec<u32>, times: usize, held: Held },
@@ -61,11 +63,13 @@ pub struct Buffers {
     log: Vec<u64>,
 }
 
-/// The results on which both programs must agree: the numbers of the last call, a sum over all calls, and the device.
+/// The results on which both programs must agree: the numbers of the last call, or of all parts of a run, a sum over all calls, the sequencer
+/// and the device.
 #[derive(Debug, PartialEq, Eq)]
 pub struct Done {
-    pub numbers: [u64; 5],
+    pub numbers: [u64; 4],
     pub sum: u64,
+    pub sequencer: Option<Sequencer>,
     pub state: Option<state::StateBytes>,
 }
 
@@ -83,7 +87,7 @@ impl Work {
         let (image, log) = match self {
             Work::Compile { .. } => (runnelopal::IMAGE_BYTES, 0),
             Work::Run { log, .. } | Work::Interpret { log, .. } => (0, *log),
-            Work::Accesses { .. } | Work::Events { .. } => (0, 0),
+            Work::Parts { .. } | Work::Accesses { .. } | Work::Events { .. } => (0, 0),
         };
         Buffers { image: vec![0xEE; image], log: vec![0xEEEE_EEEE_EEEE_EEEE; log] }
     }
@@ -103,7 +107,7 @@ impl Work {
                 our_interpretation(script, events, *budget, &mut buffers.log, *times)
             }
             (Work::Interpret { image, events, budget, times, .. }, Side::Image) => {
-                without_place(our_run(image, events, *budget, &mut buffers.log, *times))
+                without_sequencer(our_run(image, events, *budget, &mut buffers.log, *times))
             }
             (Work::Interpret { script, events, budget, times, .. }, Side::Theirs) => {
                 their_interpretation(script, events, *budget, &mut buffers.log, *times)
@@ -115,6 +119,8 @@ impl Work {
             (Work::Run { image, events, budget, times, .. }, Side::Theirs) => {
                 their_run(image, events, *budget, &mut buffers.log, *times)
             }
+            (Work::Parts { image, part, budget, .. }, Side::Ours) => our_parts(image, *part, *budget),
+            (Work::Parts { image, part, budget, held }, Side::Theirs) => their_parts(image, *part, *budget, *held),
             (Work::Accesses { start, list, times, .. }, Side::Ours) => our_accesses(start, list, *times),
             (Work::Accesses { start, list, times, held }, Side::Theirs) => their_accesses(start, list, *times, *held),
             (Work::Events { start, list, times, .. }, Side::Ours) => our_events(start, list, *times),
@@ -133,21 +139,33 @@ fn compiled(side: Side, script: &[u8], times: usize, image: &mut [u8]) -> Done {
         };
         black_box(&mut *image);
     }
-    Done { numbers: [words as u64, 0, 0, 0, 0], sum: 0, state: None }
+    Done { numbers: [words as u64, 0, 0, 0], sum: 0, sequencer: None, state: None }
+}
+
+fn our_numbers(run: &runnelopal::Run) -> [u64; 4] {
+    [u64::from(run.ending), u64::from(run.steps), run.taken as u64, run.logged as u64]
+}
+
+fn their_numbers(run: &Ended) -> [u64; 4] {
+    [u64::from(run.ending.number()), run.steps, run.events_taken as u64, run.values_logged as u64]
+}
+
+fn our_sequencer(sequencer: &runnelopal::Sequencer) -> Option<Sequencer> {
+    let view = sequencer.view().expect("the sequencer is valid");
+    Some(Sequencer { place: view.place, used: view.used as u32, counters: view.counters })
 }
 
 fn our_run(image: &[u8], events: &[u32], budget: u32, log: &mut [u64], times: usize) -> Done {
     let mut done = None;
     for _ in 0..times {
-        done = Some(runnelopal::run(black_box(image), events, budget, log).expect("the image is valid"));
+        let mut device = runnelopal::Device::fresh();
+        let mut sequencer = runnelopal::Sequencer::fresh();
+        let run = runnelopal::run(black_box(image), &mut device, &mut sequencer, events, budget, log).expect("the image is valid");
+        done = Some((run, sequencer, device));
         black_box(&mut *log);
     }
-    let run = done.expect("at least one run");
-    Done {
-        numbers: [u64::from(run.ending), run.steps, run.taken as u64, run.logged as u64, run.place],
-        sum: 0,
-        state: Some(run.device.state),
-    }
+    let (run, sequencer, device) = done.expect("at least one run");
+    Done { numbers: our_numbers(&run), sum: 0, sequencer: our_sequencer(&sequencer), state: Some(device.bytes) }
 }
 
 fn their_run(image: &[u8], events: &[u32], budget: u32, log: &mut [u64], times: usize) -> Done {
@@ -157,41 +175,28 @@ fn their_run(image: &[u8], events: &[u32], budget: u32, log: &mut [u64], times: 
         let mut sequencer = Sequencer::fresh();
         let lent = Lent { image: black_box(image), events, budget, log: &mut *log };
         let ended = sequencer::run(lent, &mut device, &mut sequencer, &mut ()).expect("the image is valid");
-        done = Some((ended, sequencer.place, state::encode(&device)));
+        done = Some((ended, sequencer, state::encode(&device)));
         black_box(&mut *log);
     }
-    let (ended, place, state) = done.expect("at least one run");
-    Done {
-        numbers: [
-            u64::from(ended.ending.number()),
-            ended.steps,
-            ended.events_taken as u64,
-            ended.values_logged as u64,
-            u64::from(place),
-        ],
-        sum: 0,
-        state: Some(state),
-    }
+    let (ended, sequencer, state) = done.expect("at least one run");
+    Done { numbers: their_numbers(&ended), sum: 0, sequencer: Some(sequencer), state: Some(state) }
 }
 
-/// An interpreter has no sequencer, so no place.
-fn without_place(run: Done) -> Done {
-    let [ending, steps, taken, logged, _] = run.numbers;
-    Done { numbers: [ending, steps, taken, logged, 0], ..run }
+/// An interpreter has no sequencer.
+fn without_sequencer(run: Done) -> Done {
+    Done { sequencer: None, ..run }
 }
 
 fn our_interpretation(script: &[u8], events: &[u32], budget: u32, log: &mut [u64], times: usize) -> Done {
     let mut done = None;
     for _ in 0..times {
-        done = Some(runnelopal::interpret(black_box(script), events, budget, log).expect("the script is valid"));
+        let mut device = runnelopal::Device::fresh();
+        let run = runnelopal::interpret(black_box(script), &mut device, events, budget, log).expect("the script is valid");
+        done = Some((run, device));
         black_box(&mut *log);
     }
-    let run = done.expect("at least one run");
-    Done {
-        numbers: [u64::from(run.ending), run.steps, run.taken as u64, run.logged as u64, 0],
-        sum: 0,
-        state: Some(run.device.state),
-    }
+    let (run, device) = done.expect("at least one run");
+    Done { numbers: our_numbers(&run), sum: 0, sequencer: None, state: Some(device.bytes) }
 }
 
 fn their_interpretation(script: &[u8], events: &[u32], budget: u32, log: &mut [u64], times: usize) -> Done {
@@ -204,25 +209,72 @@ fn their_interpretation(script: &[u8], events: &[u32], budget: u32, log: &mut [u
         black_box(&mut *log);
     }
     let (ended, state) = done.expect("at least one run");
-    Done {
-        numbers: [
-            u64::from(ended.ending.number()),
-            ended.steps,
-            ended.events_taken as u64,
-            ended.values_logged as u64,
-            0,
-        ],
-        sum: 0,
-        state: Some(state),
-    }
+    Done { numbers: their_numbers(&ended), sum: 0, sequencer: None, state: Some(state) }
 }
 
 /// Starts at a multiple of 64 bytes, so that a time depends less on where the stack of the process starts.
 #[repr(align(64))]
 struct Aligned<T>(T);
 
+/// Adds the numbers of a call to those of the calls before it. The ending is that of the last call.
+fn resumed(numbers: [u64; 4], part: [u64; 4]) -> [u64; 4] {
+    [part[0], numbers[1] + part[1], numbers[2] + part[2], numbers[3] + part[3]]
+}
+
+fn our_parts(image: &[u8], part: u32, budget: u32) -> Done {
+    let mut held = Aligned((runnelopal::Device::fresh(), runnelopal::Sequencer::fresh()));
+    let (device, sequencer) = &mut held.0;
+    let (mut numbers, mut sum) = ([0; 4], 0);
+    while numbers[1] < u64::from(budget) {
+        let run = runnelopal::run(black_box(image), device, sequencer, &[], part, &mut []).expect("the image is valid");
+        numbers = resumed(numbers, our_numbers(&run));
+        let on = run.outputs;
+        sum = added(sum, outputs(on.sci, on.smi, on.monitor));
+    }
+    Done { numbers, sum, sequencer: our_sequencer(sequencer), state: Some(device.bytes) }
+}
+
+/// The saved bytes of a sequencer (docs/STATE.md).
+fn encode(sequencer: &Sequencer) -> [u8; runnelopal::SEQUENCER_BYTES] {
+    let mut bytes = [0; runnelopal::SEQUENCER_BYTES];
+    let numbers = [sequencer.place, sequencer.used].into_iter().chain(sequencer.counters);
+    for (field, number) in bytes.chunks_exact_mut(4).zip(numbers) {
+        field.copy_from_slice(&number.to_le_bytes());
+    }
+    bytes
+}
+
+fn decode(bytes: &[u8; runnelopal::SEQUENCER_BYTES]) -> Sequencer {
+    let number = |k: usize| u32::from_le_bytes([bytes[4 * k], bytes[4 * k + 1], bytes[4 * k + 2], bytes[4 * k + 3]]);
+    Sequencer { place: number(0), used: number(1), counters: std::array::from_fn(|k| number(k + 2)) }
+}
+
+fn their_parts(image: &[u8], part: u32, budget: u32, held: Held) -> Done {
+    let mut kept = Aligned((Device::fresh(), Sequencer::fresh()));
+    let (device, sequencer) = &mut kept.0;
+    let mut saved = Aligned((state::encode(device), encode(sequencer)));
+    let (device_bytes, sequencer_bytes) = &mut saved.0;
+    let (mut numbers, mut sum) = ([0; 4], 0);
+    while numbers[1] < u64::from(budget) {
+        if held == Held::Bytes {
+            *device = state::decode(black_box(&*device_bytes)).expect("the state is valid");
+            *sequencer = decode(black_box(&*sequencer_bytes));
+        }
+        let lent = Lent { image: black_box(image), events: &[], budget: part, log: &mut [] };
+        let ended = sequencer::run(lent, device, sequencer, &mut ()).expect("the image is valid");
+        numbers = resumed(numbers, their_numbers(&ended));
+        let on = device.outputs();
+        sum = added(sum, outputs(on.sci, on.smi, on.monitor));
+        if held == Held::Bytes {
+            *device_bytes = state::encode(device);
+            *sequencer_bytes = encode(sequencer);
+        }
+    }
+    Done { numbers, sum, sequencer: Some(*sequencer), state: Some(state::encode(device)) }
+}
+
 fn our_accesses(start: &state::StateBytes, list: &[Access], times: usize) -> Done {
-    let mut held = Aligned(runnelopal::Device { state: *start });
+    let mut held = Aligned(runnelopal::Device { bytes: *start });
     let device = &mut held.0;
     let mut sum = 0;
     for _ in 0..times {
@@ -234,10 +286,10 @@ fn our_accesses(start: &state::StateBytes, list: &[Access], times: usize) -> Don
             let answer = answer.expect("the access is valid");
             let on = answer.outputs;
             let owner = u64::from(answer.owner) << 44;
-            sum = added(sum, owner | answer.status << 40 | u64::from(answer.value) << 3 | outputs(on.sci, on.smi, on.monitor));
+            sum = added(sum, owner | u64::from(answer.status) << 40 | u64::from(answer.value) << 3 | outputs(on.sci, on.smi, on.monitor));
         }
     }
-    Done { numbers: [0; 5], sum, state: Some(device.state) }
+    Done { numbers: [0; 4], sum, sequencer: None, state: Some(device.bytes) }
 }
 
 fn their_access(device: &mut Device, access: &Access) -> u64 {
@@ -271,7 +323,7 @@ fn each<T>(start: &state::StateBytes, list: &[T], times: usize, held: Held, with
         }
     }
     let state = if held == Held::Struct { state::encode(device) } else { *bytes };
-    Done { numbers: [0; 5], sum, state: Some(state) }
+    Done { numbers: [0; 4], sum, sequencer: None, state: Some(state) }
 }
 
 fn their_accesses(start: &state::StateBytes, list: &[Access], times: usize, held: Held) -> Done {
@@ -279,7 +331,7 @@ fn their_accesses(start: &state::StateBytes, list: &[Access], times: usize, held
 }
 
 fn our_events(start: &state::StateBytes, list: &[u32], times: usize) -> Done {
-    let mut held = Aligned(runnelopal::Device { state: *start });
+    let mut held = Aligned(runnelopal::Device { bytes: *start });
     let device = &mut held.0;
     let mut sum = 0;
     for _ in 0..times {
@@ -288,7 +340,7 @@ fn our_events(start: &state::StateBytes, list: &[u32], times: usize) -> Done {
             sum = added(sum, outputs(on.sci, on.smi, on.monitor));
         }
     }
-    Done { numbers: [0; 5], sum, state: Some(device.state) }
+    Done { numbers: [0; 4], sum, sequencer: None, state: Some(device.bytes) }
 }
 
 fn their_events(start: &state::StateBytes, list: &[u32], times: usize, held: Held) -> Done {

@@ -9,39 +9,40 @@
 int main(void)
 {
     /* One record longer than the longest script, so that a script that is too long is refused and not cut off. */
-    static uint8_t script[RUNNELOPAL_IMAGE + RUNNELOPAL_RECORD];
-    static uint8_t image[RUNNELOPAL_IMAGE];
+    static uint8_t script[RUNNELOPAL_IMAGE_BYTES + RUNNELOPAL_RECORD_BYTES];
+    static uint8_t image[RUNNELOPAL_IMAGE_BYTES];
     static uint64_t log[1024], interpreted_log[1024];
-    uint8_t state[RUNNELOPAL_STATE], interpreted_state[RUNNELOPAL_STATE];
-    uint32_t events[1] = {0}; /* the run has no events, but the pointer must not be null */
-    uint64_t answer[7] = {0}, interpreted[4] = {0};
+    uint8_t device[RUNNELOPAL_DEVICE_BYTES], interpreted_device[RUNNELOPAL_DEVICE_BYTES], sequencer[RUNNELOPAL_SEQUENCER_BYTES];
+    runnelopal_compile_answer compiled;
+    runnelopal_run_answer run, interpreted;
+    runnelopal_access_answer read;
 
     size_t length = fread(script, 1, sizeof script, stdin);
-    uint32_t outcome = runnelopal_interpret(script, length, events, 0, 100000, interpreted_log, 1024, interpreted_state,
-                                            sizeof interpreted_state, interpreted, 4);
-    if (outcome != RUNNELOPAL_HALTED && outcome <= RUNNELOPAL_BAD_EVENT)
-        printf("interpreted: refused %" PRIu32 " at %" PRIu64 "\n", outcome, interpreted[0]);
-    uint32_t refusal = runnelopal_compile(script, length, image, sizeof image, answer, 7);
-    if (refusal != 0) {
-        printf("refused %" PRIu32 " at %" PRIu64 "\n", refusal, answer[0]);
+    runnelopal_fresh_device(interpreted_device, sizeof interpreted_device);
+    interpreted = runnelopal_interpret(script, length, interpreted_device, sizeof interpreted_device, NULL, 0, 100000, interpreted_log, 1024);
+    if (runnelopal_is_refusal(interpreted.outcome))
+        printf("interpreted: refused %" PRIu32 " at %" PRIu32 "\n", interpreted.outcome, interpreted.place);
+    compiled = runnelopal_compile(script, length, image, sizeof image);
+    if (compiled.refusal != 0) {
+        printf("refused %" PRIu32 " at %" PRIu32 "\n", compiled.refusal, compiled.place);
         return 0;
     }
-    size_t words = answer[1];
-    printf("%zu words\n", words);
+    printf("%" PRIu32 " words\n", compiled.words);
 
-    uint32_t ending = runnelopal_run(image, RUNNELOPAL_RECORD * words, events, 0, 100000, log, 1024, state, sizeof state,
-                                     answer, 7);
-    uint64_t steps = answer[1];
-    uint64_t logged = answer[3];
-    for (size_t k = 0; k < logged; k++)
+    runnelopal_fresh_device(device, sizeof device);
+    runnelopal_fresh_sequencer(sequencer, sizeof sequencer);
+    run = runnelopal_run(image, RUNNELOPAL_RECORD_BYTES * compiled.words, device, sizeof device, sequencer, sizeof sequencer, NULL, 0,
+                         100000, log, 1024);
+    for (size_t k = 0; k < run.logged; k++)
         printf("logged %08" PRIX32 " %" PRIu32 "\n", runnelopal_entry_value(log[k]), runnelopal_entry_owner(log[k]));
-    printf("ended with %" PRIu32 " after %" PRIu64 " steps\n", ending, steps);
-    printf("interpreted: ended with %" PRIu32 " after %" PRIu64 " steps\n", outcome, interpreted[1]);
-    if (logged != interpreted[3] || memcmp(log, interpreted_log, sizeof log) != 0 || memcmp(state, interpreted_state, sizeof state) != 0)
+    printf("ended with %" PRIu32 " after %" PRIu32 " steps\n", run.outcome, run.steps);
+    printf("outputs: SCI %d, SMI %d, monitor interrupt %d\n", run.outputs.sci, run.outputs.smi, run.outputs.monitor);
+    printf("interpreted: ended with %" PRIu32 " after %" PRIu32 " steps\n", interpreted.outcome, interpreted.steps);
+    if (run.logged != interpreted.logged || memcmp(log, interpreted_log, sizeof log) != 0 || memcmp(device, interpreted_device, sizeof device) != 0)
         printf("interpreted: a different log or device\n");
 
-    refusal = runnelopal_access(state, sizeof state, false, 1, 0x2E, 0, answer, 7);
-    printf("002E reads %02" PRIX64 ", status %" PRIu64 ", owner %" PRIu64 ", refusal %" PRIu32 "\n", answer[2], answer[1], answer[6],
-           refusal);
+    read = runnelopal_access(device, sizeof device, false, 1, 0x2E, 0);
+    printf("002E reads %02" PRIX32 ", status %" PRIu32 ", owner %" PRIu32 ", refusal %" PRIu32 "\n", read.value, read.status, read.owner,
+           read.refusal);
     return 0;
 }

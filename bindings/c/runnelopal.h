@@ -1,16 +1,19 @@
 /* Runnelopal from C: compiles or interprets board setup scripts, runs them on a model of the chip, and makes single register accesses.
  *
  * Link with target/staticlib/librunnelopal.a, which `rt staticlib runnelopal` builds. docs/CHIP.md describes the chip, its registers,
- * scripts, images and events. bindings/c/example.c is a complete program.
+ * scripts, images and events; docs/STATE.md has the layouts of a saved device and of a saved sequencer. The header is C99 and C++11.
+ * Complete programs: bindings/c/example.c (a whole run), resume.c (a run in parts), single_step.c (word by word).
  *
- * Every buffer is passed as a pointer and a number of elements. A pointer must not be null, even if the number is 0. A buffer that a call
- * writes must not overlap any other buffer of the same call. There are no other preconditions: every byte and number is a valid
- * argument, and a call that cannot do what it is asked to do returns a refusal.
+ * The library keeps nothing between two calls. A device and a sequencer are bytes of the caller: a call reads them and, if it is not
+ * refused, replaces them by those after it. A new run starts from runnelopal_fresh_device and runnelopal_fresh_sequencer.
  *
- * The functions return 0, the number of a refusal, or, for runnelopal_run and runnelopal_interpret, how the run ended. The two functions
- * about an entry of the log return a number of the entry. Further results are stored in the array `answer`, in the order that is listed at
- * each function. If `answer` has fewer elements, the results that do not fit are dropped; if it has more, the rest is not changed. After a
- * refusal answer[0] is its place, and all other results are 0.
+ * Every buffer is passed as a pointer and a number of elements. A null pointer stands for a buffer without elements, whatever the number.
+ * Any other pointer must be to that many elements, and a buffer that a call writes must not overlap any other buffer of the same call.
+ * There are no other preconditions: every byte and number is a valid argument, and a call that cannot do what it is asked to do
+ * is refused.
+ *
+ * Most calls return a struct. Its first field is 0 or the number of a refusal; for a run it is also how the run ended. After a refusal
+ * `place` is the place of the fault, all other numbers are 0 and all outputs are false, and the call has changed no buffer.
  */
 #ifndef RUNNELOPAL_H
 #define RUNNELOPAL_H
@@ -23,16 +26,16 @@
 extern "C" {
 #endif
 
-/* Size of a saved device in bytes. docs/STATE.md has the layout. */
-#define RUNNELOPAL_STATE 106
+/* ---- Sizes */
 
-/* An image buffer of this many bytes is large enough for every script. */
-#define RUNNELOPAL_IMAGE 12288
+#define RUNNELOPAL_DEVICE_BYTES 106   /* a saved device */
+#define RUNNELOPAL_SEQUENCER_BYTES 40 /* a saved sequencer */
+#define RUNNELOPAL_IMAGE_BYTES 12288  /* an image buffer of this size is large enough for every script */
+#define RUNNELOPAL_RECORD_BYTES 12    /* a script record, and an image word */
+#define RUNNELOPAL_COUNTERS 8         /* the loop counters of a sequencer, in use or not */
 
-/* Size in bytes of a script record and of an image word. */
-#define RUNNELOPAL_RECORD 12
+/* ---- Refusals */
 
-/* Refusals. A refused call changes neither the image, the log nor the saved device. */
 #define RUNNELOPAL_BAD_LENGTH 1       /* the script's length is not a multiple of 12, or it has more than 1,024 records; place 0 */
 #define RUNNELOPAL_WRONG_MARK 2       /* wrong mark; the place is the number of the record, as for 3 to 6, counted from 0 */
 #define RUNNELOPAL_BAD_KIND 3         /* the kind of the record is not 1 to 7 */
@@ -43,10 +46,11 @@ extern "C" {
 #define RUNNELOPAL_TOO_MANY_WORDS 8   /* the image would have more than 1,024 words */
 #define RUNNELOPAL_BUFFER_TOO_SHORT 9 /* the image buffer is too short */
 #define RUNNELOPAL_BAD_IMAGE 10       /* the image is empty, not a multiple of 12 bytes, or has more than 1,024 words; place 0 */
-#define RUNNELOPAL_BAD_STATE 11       /* the bytes are not RUNNELOPAL_STATE long, hold no device, or hold one that is out of range; place 0 */
+#define RUNNELOPAL_BAD_STATE 11       /* the bytes are not a valid device, or not a valid sequencer; place 0 */
 #define RUNNELOPAL_BAD_EVENT 12       /* not an event; in a run, the place is its index, or 4096 if there are more than 4,096 events */
 
-/* How a run ended. 20 to 24 are faults: the word at fault is not executed, and takes no event. */
+/* ---- How a run ended. 20 to 24 are faults: the word at fault is not executed, and takes no event. */
+
 #define RUNNELOPAL_HALTED 0            /* executed a halt */
 #define RUNNELOPAL_BUDGET_SPENT 19     /* executed as many words as the budget allows, without a halt */
 #define RUNNELOPAL_BAD_WORD 20         /* the word has a wrong mark, kind, width, value or unused field */
@@ -55,66 +59,263 @@ extern "C" {
 #define RUNNELOPAL_NO_COUNTER 23       /* the word ends a loop, and no loop is open */
 #define RUNNELOPAL_LOG_FULL 24         /* the word is a read, and the log has no room for its value */
 
-/* Status of an access. With a status other than 0 the access itself changes nothing. 3 is retired and is not used again. */
+/* ---- Status of an access. With a status other than 0 the access itself changes nothing. 3 is retired and is not used again. */
+
 #define RUNNELOPAL_STATUS_DONE 0      /* done */
 #define RUNNELOPAL_STATUS_UNCLAIMED 1 /* no block claims the port, or the block does not take the access; a read returns all ones */
 #define RUNNELOPAL_STATUS_BLOCKED 2   /* blocked by a lock, or a write to a read-only register; a read returns 0, as for 4 */
 #define RUNNELOPAL_STATUS_ABSENT 4    /* the index does not name a register */
 #define RUNNELOPAL_STATUS_IGNORED 5   /* the register does not accept the value; the write is ignored */
 
-/* Owner of a port: the block that answers there. It depends on the configuration of the device. An answer names the owner at the moment of
- * the access. */
+/* ---- Owner of a port: the block that answers there. It depends on the configuration of the device. An answer names the owner at the
+ * moment of the access. */
+
 #define RUNNELOPAL_OWNER_NOBODY 0        /* no block claims the port */
 #define RUNNELOPAL_OWNER_CONFIGURATION 1 /* 002Eh and 002Fh */
 #define RUNNELOPAL_OWNER_ACPI 2          /* AC00h to AC1Fh */
 #define RUNNELOPAL_OWNER_MONITOR 3       /* runtime base + 70h and + 71h */
 #define RUNNELOPAL_OWNER_KEY 4           /* key base to key base + 31 */
 
-/* Compiles a script into the image buffer. Returns 0, or a refusal from 1 to 9, which leaves the buffer unchanged. The image is
- * RUNNELOPAL_RECORD bytes for each word; the rest of the buffer is not changed.
- * answer: place of the refusal, number of words */
-uint32_t runnelopal_compile(const uint8_t *script, size_t script_bytes, uint8_t *image, size_t image_bytes,
-                            uint64_t *answer, size_t answer_count);
+/* ---- Events from outside the chip */
 
-/* Runs an image on a fresh device, from its first word. `events` are the outside events; the next one is applied before each register
- * access. `budget` is the greatest number of words to execute. Each read of the image appends an entry to `log`: the value and the owner of
- * the port, which runnelopal_entry_value and runnelopal_entry_owner return. The device after the run is saved in `state` if that is
- * RUNNELOPAL_STATE bytes long; otherwise `state` is not changed.
- * Returns how the run ended (0 or 19 to 24), or refusal 10 or 12, which leaves `log` and `state` unchanged.
- * answer: place of the refusal, words executed, events applied, values logged, place of the sequencer: the index of
- * the next word, or of the halt */
-uint32_t runnelopal_run(const uint8_t *image, size_t image_bytes, const uint32_t *events, size_t event_count,
-                        uint32_t budget, uint64_t *log, size_t log_count, uint8_t *state, size_t state_bytes,
-                        uint64_t *answer, size_t answer_count);
+/* The number of an event: the kind in bits 31 to 24, the operand below. It is a constant if both are. A kind or an operand that has more
+ * bits gives FFFFFFFFh, which is not an event, so that it is refused and not taken for another event. Example:
+ * RUNNELOPAL_EVENT(RUNNELOPAL_EVENT_PIN, 2 | RUNNELOPAL_PIN_HIGH) sets pin 2 to high. */
+#define RUNNELOPAL_EVENT(kind, operand) \
+    ((uint64_t)(kind) <= 0xFF && (uint64_t)(operand) <= 0xFFFFFF ? (uint32_t)(kind) << 24 | (uint32_t)(operand) : (uint32_t)0xFFFFFFFF)
 
-/* Interprets a script on a fresh device: walks through its nested records, without an image. `events`, `budget`, `log` and `state` are as for
- * runnelopal_run. The result is that of compiling the script and running the image: the same ending, steps, events, values logged, log and
- * device, at every budget and every length of `log`.
- * Returns how the run ended (0, 19 or 24), or a refusal: 1 to 8 for the script, then 12; 11 does not occur, because the device is fresh. A
- * refusal leaves `log` and `state` unchanged.
- * answer: place of the refusal, steps (the words that the image would execute), events applied, values logged */
-uint32_t runnelopal_interpret(const uint8_t *script, size_t script_bytes, const uint32_t *events, size_t event_count,
-                              uint32_t budget, uint64_t *log, size_t log_count, uint8_t *state, size_t state_bytes,
-                              uint64_t *answer, size_t answer_count);
+/* Kinds of events. */
+#define RUNNELOPAL_EVENT_TICKS 1      /* advances the timer; the operand is the number of ticks, 0 to 65,535 */
+#define RUNNELOPAL_EVENT_PIN 2        /* the operand is the pin, 0 to 7, and RUNNELOPAL_PIN_HIGH for a high level */
+#define RUNNELOPAL_EVENT_RTC_ALARM 3  /* operand 0 */
+#define RUNNELOPAL_EVENT_BUS_MASTER 4 /* operand 0 */
+#define RUNNELOPAL_EVENT_SENSOR 5     /* sets status bits of the monitor; the operand is a sum of RUNNELOPAL_SENSOR_.. */
+#define RUNNELOPAL_EVENT_RESET 6      /* the operand is one of RUNNELOPAL_RESET_.. */
+#define RUNNELOPAL_EVENT_BUTTON 7     /* button held; operand 0 */
+
+/* Bits of the operand of a pin event. */
+#define RUNNELOPAL_PIN_NUMBER 0x07 /* the pin */
+#define RUNNELOPAL_PIN_HIGH 0x08   /* its new level: set for high, clear for low */
+
+/* Bits of the operand of a sensor event. */
+#define RUNNELOPAL_SENSOR_VTR 0x01
+#define RUNNELOPAL_SENSOR_VBAT 0x02
+
+/* Resets. Each one includes those before it. */
+#define RUNNELOPAL_RESET_PCI 0  /* the configuration */
+#define RUNNELOPAL_RESET_VCC 1  /* also the monitor */
+#define RUNNELOPAL_RESET_VTR 2  /* also the ACPI block, except for the levels of the pins */
+#define RUNNELOPAL_RESET_VBAT 3 /* also the levels and the key bytes: the fresh device */
+
+/* ---- Records and words: 12 bytes each. Mark (2 bytes), kind (1), width (1), port (2), target (2), value (4), low bytes first. */
+
+#define RUNNELOPAL_SCRIPT_MARK 0xA55A /* the mark of a script record: bytes 5Ah A5h */
+#define RUNNELOPAL_WORD_MARK 0x3CC3   /* the mark of an image word: bytes C3h 3Ch */
+
+/* Kinds of script records. */
+#define RUNNELOPAL_SCRIPT_WRITE 1
+#define RUNNELOPAL_SCRIPT_READ 2
+#define RUNNELOPAL_SCRIPT_DELAY 3
+#define RUNNELOPAL_SCRIPT_REPEAT 4
+#define RUNNELOPAL_SCRIPT_IF 5
+#define RUNNELOPAL_SCRIPT_ELSE 6
+#define RUNNELOPAL_SCRIPT_END 7
+
+/* Kinds of image words. */
+#define RUNNELOPAL_WORD_WRITE 1
+#define RUNNELOPAL_WORD_READ 2
+#define RUNNELOPAL_WORD_DELAY 3
+#define RUNNELOPAL_WORD_ENTER 4
+#define RUNNELOPAL_WORD_LOOP_END 5
+#define RUNNELOPAL_WORD_TEST 6
+#define RUNNELOPAL_WORD_JUMP 7
+#define RUNNELOPAL_WORD_HALT 8
+
+/* ---- Answers */
+
+/* The levels of the outputs: SCI, SMI and the monitor interrupt. */
+typedef struct runnelopal_output_levels {
+    bool sci;
+    bool smi;
+    bool monitor;
+} runnelopal_output_levels;
+
+typedef struct runnelopal_compile_answer {
+    uint32_t refusal; /* 0, or 1 to 9 */
+    uint32_t place;   /* of the refusal */
+    uint32_t words;   /* the image is RUNNELOPAL_RECORD_BYTES times this many bytes long */
+} runnelopal_compile_answer;
+
+typedef struct runnelopal_run_answer {
+    uint32_t outcome; /* how the run ended, or a refusal; runnelopal_is_refusal tells which */
+    uint32_t place;   /* of the refusal */
+    uint32_t steps;   /* words executed, a halt included */
+    size_t taken;     /* events applied */
+    size_t logged;    /* values logged: so many entries of the log are filled, from its front */
+    runnelopal_output_levels outputs; /* of the device after the run */
+} runnelopal_run_answer;
+
+typedef struct runnelopal_access_answer {
+    uint32_t refusal; /* 0, 11 or 4 */
+    uint32_t place;   /* 0 */
+    uint32_t status;  /* one of RUNNELOPAL_STATUS_.. */
+    uint32_t value;   /* the value read; 0 for a write */
+    uint32_t owner;   /* of the port: one of RUNNELOPAL_OWNER_.. */
+    runnelopal_output_levels outputs; /* after the access */
+} runnelopal_access_answer;
+
+typedef struct runnelopal_outputs_answer {
+    uint32_t refusal; /* 0, 11 or 12 */
+    uint32_t place;   /* 0 */
+    runnelopal_output_levels outputs;
+} runnelopal_outputs_answer;
+
+typedef struct runnelopal_sequencer_answer {
+    uint32_t refusal; /* 0 or 11 */
+    uint32_t place;   /* the index of the next word, or of the halt at which a run ended */
+    uint32_t used;    /* how many counters are in use, which is how many loops are open */
+    uint32_t counters[RUNNELOPAL_COUNTERS]; /* the turns left, that of the outermost loop first; 0 if not in use */
+} runnelopal_sequencer_answer;
+
+/* ---- The symbols of the library. They take no null pointers; call the functions below, which do. */
+
+runnelopal_compile_answer runnelopal_raw_compile(const uint8_t *script, size_t script_bytes, uint8_t *image, size_t image_bytes);
+runnelopal_run_answer runnelopal_raw_run(const uint8_t *image, size_t image_bytes, uint8_t *device, size_t device_bytes,
+                                         uint8_t *sequencer, size_t sequencer_bytes, const uint32_t *events, size_t event_count,
+                                         uint32_t budget, uint64_t *log, size_t log_count);
+runnelopal_run_answer runnelopal_raw_interpret(const uint8_t *script, size_t script_bytes, uint8_t *device, size_t device_bytes,
+                                               const uint32_t *events, size_t event_count, uint32_t budget, uint64_t *log,
+                                               size_t log_count);
+runnelopal_access_answer runnelopal_raw_access(uint8_t *device, size_t device_bytes, bool write, uint32_t width, uint32_t port,
+                                               uint32_t value);
+runnelopal_outputs_answer runnelopal_raw_event(uint8_t *device, size_t device_bytes, uint32_t number);
+runnelopal_outputs_answer runnelopal_raw_outputs(const uint8_t *device, size_t device_bytes);
+uint32_t runnelopal_raw_fresh_device(uint8_t *device, size_t device_bytes);
+uint32_t runnelopal_raw_fresh_sequencer(uint8_t *sequencer, size_t sequencer_bytes);
+bool runnelopal_raw_valid_device(const uint8_t *device, size_t device_bytes);
+bool runnelopal_raw_valid_sequencer(const uint8_t *sequencer, size_t sequencer_bytes);
+runnelopal_sequencer_answer runnelopal_raw_sequencer(const uint8_t *sequencer, size_t sequencer_bytes);
 
 /* The value and the owner of an entry of the log: its low 32 bits, and the bits above them. Every number is a valid argument. */
 uint32_t runnelopal_entry_value(uint64_t entry);
 uint32_t runnelopal_entry_owner(uint64_t entry);
 
-/* Saves a fresh device in `state`. Returns 0, or refusal 11 if `state` is not RUNNELOPAL_STATE bytes long. */
-uint32_t runnelopal_fresh(uint8_t *state, size_t state_bytes);
+/* ---- The functions */
 
-/* Makes one access to the saved device in `state`: a read or a write of `width` bytes (1, 2 or 4) at a port from 0 to FFFFh. `value` is
- * the value to write; a read does not use it. Returns 0, or refusal 11 or 4, which leaves `state` unchanged.
- * answer: place of the refusal, status, value read (0 for a write), the outputs after the access, each 0 or 1: SCI, SMI, monitor
- * interrupt, and the owner of the port */
-uint32_t runnelopal_access(uint8_t *state, size_t state_bytes, bool write, uint32_t width, uint32_t port,
-                           uint32_t value, uint64_t *answer, size_t answer_count);
+/* Whether the outcome of a run is a refusal, 1 to 12. Otherwise it is how the run ended. */
+static inline bool runnelopal_is_refusal(uint32_t outcome)
+{
+    return RUNNELOPAL_BAD_LENGTH <= outcome && outcome <= RUNNELOPAL_BAD_EVENT;
+}
 
-/* Applies one outside event to the saved device in `state`. The top byte of `number` is the kind of the event, the rest its operand.
- * Returns 0, or refusal 11 or 12, which leaves `state` unchanged.
- * answer: place of the refusal, and the outputs after the event, each 0 or 1: SCI, SMI, monitor interrupt */
-uint32_t runnelopal_event(uint8_t *state, size_t state_bytes, uint32_t number, uint64_t *answer, size_t answer_count);
+/* Compiles a script into the image buffer. Refusals: 1 to 9. The rest of the buffer, after the words, is not changed. */
+static inline runnelopal_compile_answer runnelopal_compile(const uint8_t *script, size_t script_bytes, uint8_t *image, size_t image_bytes)
+{
+    uint8_t none = 0; /* in place of a null pointer, here and below: the library needs a pointer that is not null and is aligned */
+    return runnelopal_raw_compile(script ? script : &none, script ? script_bytes : 0, image ? image : &none, image ? image_bytes : 0);
+}
+
+/* Runs an image on the saved device, from the place of the saved sequencer. `events` are the outside events; the next one is applied
+ * before each register access. `budget` is the greatest number of words to execute. Each read of the image appends an entry to `log`: the
+ * value and the owner of the port, which runnelopal_entry_value and runnelopal_entry_owner return. The rest of `log` is not changed.
+ * Afterwards `device` and `sequencer` are those after the run. Refusals: 10, then 11 for the device or the sequencer, then 12.
+ *
+ * A run that ended with 19 is resumed with the same image, the device and the sequencer that it left, the events that it did not take
+ * and the room that is left in the log. A budget of a and then of b gives the same as one run with a + b; steps, taken and logged add up:
+ *
+ *     do {
+ *         part = runnelopal_run(image, bytes, device, sizeof device, sequencer, sizeof sequencer, events, count, budget, log, room);
+ *         events += part.taken, count -= part.taken, log += part.logged, room -= part.logged;
+ *     } while (part.outcome == RUNNELOPAL_BUDGET_SPENT);
+ *
+ * A call with budget 1 executes one word. A run that is resumed after a halt halts again and counts one step. */
+static inline runnelopal_run_answer runnelopal_run(const uint8_t *image, size_t image_bytes, uint8_t *device, size_t device_bytes,
+                                                   uint8_t *sequencer, size_t sequencer_bytes, const uint32_t *events, size_t event_count,
+                                                   uint32_t budget, uint64_t *log, size_t log_count)
+{
+    uint8_t none = 0;
+    uint32_t no_event = 0;
+    uint64_t no_log = 0;
+    return runnelopal_raw_run(image ? image : &none, image ? image_bytes : 0, device ? device : &none, device ? device_bytes : 0,
+                              sequencer ? sequencer : &none, sequencer ? sequencer_bytes : 0, events ? events : &no_event,
+                              events ? event_count : 0, budget, log ? log : &no_log, log ? log_count : 0);
+}
+
+/* Interprets a script on the saved device: walks through its nested records, without an image and a sequencer. `events`, `budget` and `log`
+ * are as for runnelopal_run. The result is that of compiling the script and running the image from a fresh sequencer: the same outcome,
+ * steps, events, values logged, log and device, at every budget and every length of `log`. It always starts at the first record, so it
+ * cannot be resumed. Refusals: 1 to 8 for the script, then 11, then 12. */
+static inline runnelopal_run_answer runnelopal_interpret(const uint8_t *script, size_t script_bytes, uint8_t *device, size_t device_bytes,
+                                                         const uint32_t *events, size_t event_count, uint32_t budget, uint64_t *log,
+                                                         size_t log_count)
+{
+    uint8_t none = 0;
+    uint32_t no_event = 0;
+    uint64_t no_log = 0;
+    return runnelopal_raw_interpret(script ? script : &none, script ? script_bytes : 0, device ? device : &none, device ? device_bytes : 0,
+                                    events ? events : &no_event, events ? event_count : 0, budget, log ? log : &no_log,
+                                    log ? log_count : 0);
+}
+
+/* Makes one access to the saved device: a read or a write of `width` bytes (1, 2 or 4) at a port from 0 to FFFFh. `value` is the value to
+ * write; a read does not use it. Refusals: 11, then 4. */
+static inline runnelopal_access_answer runnelopal_access(uint8_t *device, size_t device_bytes, bool write, uint32_t width, uint32_t port,
+                                                         uint32_t value)
+{
+    uint8_t none = 0;
+    return runnelopal_raw_access(device ? device : &none, device ? device_bytes : 0, write, width, port, value);
+}
+
+/* Applies one outside event to the saved device, and returns the outputs after it. RUNNELOPAL_EVENT makes the number. Refusals: 11, then
+ * 12. */
+static inline runnelopal_outputs_answer runnelopal_event(uint8_t *device, size_t device_bytes, uint32_t number)
+{
+    uint8_t none = 0;
+    return runnelopal_raw_event(device ? device : &none, device ? device_bytes : 0, number);
+}
+
+/* The outputs of the saved device. Refusal: 11. */
+static inline runnelopal_outputs_answer runnelopal_outputs(const uint8_t *device, size_t device_bytes)
+{
+    uint8_t none = 0;
+    return runnelopal_raw_outputs(device ? device : &none, device ? device_bytes : 0);
+}
+
+/* Saves a fresh device, the chip after power-on, in `device`. Returns 0, or refusal 11 if that is not RUNNELOPAL_DEVICE_BYTES long. */
+static inline uint32_t runnelopal_fresh_device(uint8_t *device, size_t device_bytes)
+{
+    uint8_t none = 0;
+    return runnelopal_raw_fresh_device(device ? device : &none, device ? device_bytes : 0);
+}
+
+/* Saves a fresh sequencer in `sequencer`: place 0, no counter in use. Returns 0, or refusal 11 if that is not RUNNELOPAL_SEQUENCER_BYTES
+ * long. */
+static inline uint32_t runnelopal_fresh_sequencer(uint8_t *sequencer, size_t sequencer_bytes)
+{
+    uint8_t none = 0;
+    return runnelopal_raw_fresh_sequencer(sequencer ? sequencer : &none, sequencer ? sequencer_bytes : 0);
+}
+
+/* Whether the bytes are a valid device: whether the other calls take it, and do not refuse it with 11. */
+static inline bool runnelopal_valid_device(const uint8_t *device, size_t device_bytes)
+{
+    uint8_t none = 0;
+    return runnelopal_raw_valid_device(device ? device : &none, device ? device_bytes : 0);
+}
+
+/* Whether the bytes are a valid sequencer. */
+static inline bool runnelopal_valid_sequencer(const uint8_t *sequencer, size_t sequencer_bytes)
+{
+    uint8_t none = 0;
+    return runnelopal_raw_valid_sequencer(sequencer ? sequencer : &none, sequencer ? sequencer_bytes : 0);
+}
+
+/* The place and the counters of the saved sequencer. Refusal: 11. */
+static inline runnelopal_sequencer_answer runnelopal_sequencer(const uint8_t *sequencer, size_t sequencer_bytes)
+{
+    uint8_t none = 0;
+    return runnelopal_raw_sequencer(sequencer ? sequencer : &none, sequencer ? sequencer_bytes : 0);
+}
 
 #ifdef __cplusplus
 }
