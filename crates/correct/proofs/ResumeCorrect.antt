@@ -232,12 +232,13 @@ module _ (image : List ℕ) (d : Device) (s : Sequencer) (events : List ℕ) (a 
       sameSequencer = refl;
       stepsAdded = omega (arith, first-steps);
       takenAdded =
-          omega
-          (arith,
-          ap length left-is,
-          few-left events (stopped .world) (run-takes-one image d s events a (length log)),
-          few-left left (second .machine .world)
-          (run-takes-one image (stopped .world .device) (sequencerAt (stopped .place) (stopped .counters)) left b (length free)));
+          omega (
+            arith,
+            ap length left-is,
+            few-left events (stopped .world) (run-takes-one image d s events a (length log)),
+            few-left left (second .machine .world)
+                (run-takes-one image (stopped .world .device) (sequencerAt (stopped .place) (stopped .counters)) left b (length free)),
+          );
       loggedAdded = length-append entries (second .machine .world .logged);
       sameLog = log-joined entries (second .machine .world .logged) log;
     })

@@ -84,8 +84,16 @@ pub fn show_sequencer(session: Session, line: &[u8]) -> Session {
     session
 }
 
-fn load_bytes(bytes: &[u8; strings::MOST_BYTES]) -> LoadResult {
+fn load_front(bytes: &[u8]) -> LoadResult {
+    if bytes.len() < sequencer_state::SIZE {
+        return sequencer_state::load(bytes);
+    }
     sequencer_state::load(&bytes[..sequencer_state::SIZE])
+}
+
+// The saved sequencer is in the front of the buffer.
+fn load_bytes(bytes: &[u8; strings::MOST_BYTES]) -> LoadResult {
+    load_front(bytes)
 }
 
 // G bytes. After a refusal the sequencer stays as it was.

@@ -7,19 +7,13 @@ use Rattle.replay.proofs.answer.put_entries.Statement.{statement}
 use Rattle.replay.proofs.answer.put_entries.Tie as tie
 
 abbrev Inv-loop : tie.InvT-loop
-Inv-loop line₀ at log size next₀ k₀ k-end line next k = length line ≡ length line₀
+Inv-loop line₀ at log next₀ k₀ k-end line next k = length line ≡ length line₀
 
 abbrev μ-loop : tie.MeasureT-loop
-μ-loop line₀ at log size next₀ k₀ k-end line next k = k-end - k
+μ-loop line₀ at log next₀ k₀ k-end line next k = k-end - k
 
 loop-holds : tie.Need-loop-holds Inv-loop μ-loop
 loop-holds c = search needs
-
-same-length : tie.Need-same-length Inv-loop μ-loop
-same-length c = search needs
-
-returns : tie.Need-returns Inv-loop μ-loop
-returns c = search needs
 
 mul-put-entry : tie.Need-mul-put-entry Inv-loop μ-loop
 mul-put-entry c = search needs
@@ -39,11 +33,11 @@ loop-less c = search needs
 loop-again : tie.Need-loop-again Inv-loop μ-loop
 loop-again c = search needs
 
-same-length-2 : tie.Need-same-length-2 Inv-loop μ-loop
-same-length-2 c = search needs
+same-length : tie.Need-same-length Inv-loop μ-loop
+same-length c = search needs
 
-returns-2 : tie.Need-returns-2 Inv-loop μ-loop
-returns-2 c = search needs
+returns : tie.Need-returns Inv-loop μ-loop
+returns c = search needs
 
 pub put-entries-spec : {M : Type 1} → statement M
 put-entries-spec =
@@ -52,13 +46,11 @@ put-entries-spec =
     Inv-loop
     μ-loop
     loop-holds
-    same-length
-    returns
     mul-put-entry
     shared-slice-read-put-entry
     put-entry-requires
     add-k
     loop-less
     loop-again
-    same-length-2
-    returns-2)
+    same-length
+    returns)
