@@ -9,5 +9,5 @@ pub mod WholeRun
 pub mod Fills
 pub mod CompilerCorrect
 pub mod InterpreterCorrect
-pub mod Resumed
+pub mod EarlierEntries
 pub mod ResumeCorrect

@@ -44,7 +44,7 @@ use Rattle.step.specs.Step.{Machine, Step, continues, execute, faults, halts, l
 use Rattle.step.specs.declared.Sequencer.{Sequencer}
 use Rattle.correct.specs.ResumeCorrect.{AccessesAddUp, AddUp, ResumeCorrect, eventsLeft, roomLeft}
 use Rattle.correct.proofs.Fills.{events-left, front, rest}
-use Rattle.correct.proofs.Resumed.{endAfter, run-again}
+use Rattle.correct.proofs.EarlierEntries.{endAfter, run-again}
 
 -- ---- each access takes one event, as long as there are any
 takes-one : (all : List ℕ) (room : ℕ) → Keeps room (λ m. OneEach all (m .world))

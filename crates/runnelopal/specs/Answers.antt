@@ -29,12 +29,12 @@ levels o = record { sci = o .sci; smi = o .smi; monitor = o .monitor }
 abbrev pub levelsUnlessRefused : (outcome : ℕ) → Device → OutputLevels
 levelsUnlessRefused outcome d = cond (isRefusal outcome) (levels noOutputs) (levels (outputsOf d))
 
-abbrev pub compileAnswered : CompileResult → CompileAnswer
-compileAnswered r = record { refusal = r .refusal; place = r .place; words = r .words }
+abbrev pub exportedCompile : CompileResult → CompileAnswer
+exportedCompile r = record { refusal = r .refusal; place = r .place; words = r .words }
 
 -- a run, and a script that is interpreted
-abbrev pub runAnswered : RunResult → RunAnswer
-runAnswered r = record {
+abbrev pub exportedRun : RunResult → RunAnswer
+exportedRun r = record {
   outcome = r .outcome;
   place = r .place;
   steps = r .steps;
@@ -43,8 +43,8 @@ runAnswered r = record {
   outputs = levelsUnlessRefused (r .outcome) (r .device);
 }
 
-abbrev pub interpretAnswered : InterpretResult → RunAnswer
-interpretAnswered r = record {
+abbrev pub exportedInterpret : InterpretResult → RunAnswer
+exportedInterpret r = record {
   outcome = r .outcome;
   place = r .place;
   steps = r .steps;
@@ -64,8 +64,8 @@ refusedAnswer f = record {
   outputs = levels noOutputs;
 }
 
-abbrev pub accessAnswered : AccessReply → AccessAnswer
-accessAnswered r = record {
+abbrev pub exportedAccess : AccessReply → AccessAnswer
+exportedAccess r = record {
   refusal = r .refusal;
   place = r .place;
   status = r .status;
@@ -74,18 +74,18 @@ accessAnswered r = record {
   outputs = levels (r .outputs);
 }
 
-abbrev pub eventAnswered : EventReply → OutputsAnswer
-eventAnswered r = record { refusal = r .refusal; place = r .place; outputs = levels (r .outputs) }
+abbrev pub exportedEvent : EventReply → OutputsAnswer
+exportedEvent r = record { refusal = r .refusal; place = r .place; outputs = levels (r .outputs) }
 
-abbrev pub outputsAnswered : Device → OutputsAnswer
-outputsAnswered d = record { refusal = 0; place = 0; outputs = levels (outputsOf d) }
+abbrev pub exportedOutputs : Device → OutputsAnswer
+exportedOutputs d = record { refusal = 0; place = 0; outputs = levels (outputsOf d) }
 
 abbrev pub outputsRefused : ℕ → OutputsAnswer
 outputsRefused n = record { refusal = n; place = 0; outputs = levels noOutputs }
 
 -- the place of the next word and the counters; at most 8 are in use, so the remainder changes nothing
-abbrev pub sequencerAnswered : Sequencer → SequencerAnswer
-sequencerAnswered s = record { refusal = 0; place = s .place; used = s .used % 0x1_0000_0000; counters = s .counters }
+abbrev pub exportedSequencer : Sequencer → SequencerAnswer
+exportedSequencer s = record { refusal = 0; place = s .place; used = s .used % 0x1_0000_0000; counters = s .counters }
 
 abbrev pub sequencerRefused : ℕ → SequencerAnswer
 sequencerRefused n = record { refusal = n; place = 0; used = 0; counters = replicate counterCount 0 }

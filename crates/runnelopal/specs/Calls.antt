@@ -20,12 +20,12 @@ use Rattle.state.specs.State.{deviceFrom, holdsDevice, saved as savedDevice}
 use Rattle.step.specs.Sequencer.{sequencerInRange}
 use Rattle.step.specs.declared.Sequencer.{Sequencer}
 use Rattle.runnelopal.specs.Answers.{
-  interpretAnswered,
-  outputsAnswered,
+  exportedInterpret,
+  exportedOutputs,
   outputsRefused,
   refusedAnswer,
-  runAnswered,
-  sequencerAnswered,
+  exportedRun,
+  exportedSequencer,
   sequencerRefused,
 }
 use Rattle.runnelopal.specs.declared.answer.OutputsAnswer.{OutputsAnswer}
@@ -43,10 +43,10 @@ abbrev pub validSequencer : List ℕ → Bool
 validSequencer bytes = holdsSequencer bytes && sequencerInRange (sequencerFrom bytes)
 
 abbrev pub savedOutputs : List ℕ → OutputsAnswer
-savedOutputs bytes = cond (validDevice bytes) (outputsAnswered (deviceFrom bytes)) (outputsRefused number.badState)
+savedOutputs bytes = cond (validDevice bytes) (exportedOutputs (deviceFrom bytes)) (outputsRefused number.badState)
 
 abbrev pub savedSequencerAnswer : List ℕ → SequencerAnswer
-savedSequencerAnswer bytes = cond (validSequencer bytes) (sequencerAnswered (sequencerFrom bytes)) (sequencerRefused number.badState)
+savedSequencerAnswer bytes = cond (validSequencer bytes) (exportedSequencer (sequencerFrom bytes)) (sequencerRefused number.badState)
 
 -- ---- a run from saved bytes
 -- everything that a run returns and leaves: its answer, the bytes of the device and of the sequencer, and the log
@@ -69,7 +69,7 @@ sequencerAfter outcome s bytes = cond (isRefusal outcome) bytes (savedSequencer 
 -- the run from the device and the sequencer that the bytes hold. r is its result, and log' the log after it
 abbrev pub ranFrom : RunResult → (device sequencer log' : List ℕ) → AfterRun
 ranFrom r device sequencer log' =
-    afterRun (runAnswered r) (deviceAfter (r .outcome) (r .device) device) (sequencerAfter (r .outcome) (r .sequencer) sequencer) log'
+    afterRun (exportedRun r) (deviceAfter (r .outcome) (r .device) device) (sequencerAfter (r .outcome) (r .sequencer) sequencer) log'
 
 unfoldable pub heldRun : (image device sequencer events : List ℕ) → ℕ → List ℕ → AfterRun
 heldRun image device sequencer events budget log =
@@ -77,13 +77,13 @@ heldRun image device sequencer events budget log =
     (logAfter image (deviceFrom device) (sequencerFrom sequencer) events budget log)
 
 -- bytes that hold no device, or no sequencer, are refused with 11. The order: "Runs: 10, 11, 12."
-abbrev pub notHeld : (image : List ℕ) → Refusal
-notHeld image = cond (badImage image) (refusal number.badImage 0) (refusal number.badState 0)
+abbrev pub unheldRefusal : (image : List ℕ) → Refusal
+unheldRefusal image = cond (badImage image) (refusal number.badImage 0) (refusal number.badState 0)
 
 unfoldable pub savedRun : (image device sequencer events : List ℕ) → ℕ → List ℕ → AfterRun
 savedRun image device sequencer events budget log =
     cond (holdsDevice device && holdsSequencer sequencer) (heldRun image device sequencer events budget log)
-    (afterRun (refusedAnswer (notHeld image)) device sequencer log)
+    (afterRun (refusedAnswer (unheldRefusal image)) device sequencer log)
 
 -- ---- a script, interpreted on a saved device
 pub record AfterInterpret : Type 0 where
@@ -95,7 +95,7 @@ abbrev pub afterInterpret : RunAnswer → (device log : List ℕ) → AfterInter
 afterInterpret a device log = record { answer = a; device = device; log = log }
 
 abbrev pub interpretedOn : InterpretResult → (device log' : List ℕ) → AfterInterpret
-interpretedOn r device log' = afterInterpret (interpretAnswered r) (deviceAfter (r .outcome) (r .device) device) log'
+interpretedOn r device log' = afterInterpret (exportedInterpret r) (deviceAfter (r .outcome) (r .device) device) log'
 
 unfoldable pub heldInterpret : (script device events : List ℕ) → ℕ → List ℕ → AfterInterpret
 heldInterpret script device events budget log =
@@ -103,10 +103,10 @@ heldInterpret script device events budget log =
     (interpretLog script (deviceFrom device) events budget log)
 
 -- the order: "the script's 1 to 8, then 11 for the device and 12"
-abbrev pub notHeldScript : (script : List ℕ) → Refusal
-notHeldScript script = cond (eqb (scriptRefusal script .number) 0) (refusal number.badState 0) (scriptRefusal script)
+abbrev pub unheldScriptRefusal : (script : List ℕ) → Refusal
+unheldScriptRefusal script = cond (eqb (scriptRefusal script .number) 0) (refusal number.badState 0) (scriptRefusal script)
 
 unfoldable pub savedInterpret : (script device events : List ℕ) → ℕ → List ℕ → AfterInterpret
 savedInterpret script device events budget log =
     cond (holdsDevice device) (heldInterpret script device events budget log)
-    (afterInterpret (refusedAnswer (notHeldScript script)) device log)
+    (afterInterpret (refusedAnswer (unheldScriptRefusal script)) device log)

@@ -12,13 +12,13 @@ ghost use mathlib.Core.Path.{_≡_};
 ghost use Rattle.runnelopal.specs.Answers.{
   levels,
   levelsUnlessRefused,
-  runAnswered,
-  interpretAnswered,
-  accessAnswered,
-  eventAnswered,
-  outputsAnswered,
+  exportedRun,
+  exportedInterpret,
+  exportedAccess,
+  exportedEvent,
+  exportedOutputs,
   outputsRefused,
-  sequencerAnswered,
+  exportedSequencer,
   sequencerRefused,
 };
 
@@ -86,7 +86,7 @@ pub fn levels(outputs: Outputs) -> OutputLevels
     }
 }
 
-// The outputs of the device after a run. After a refusal they are not asked for.
+// The outputs of the device after a run. After a refusal they are all false.
 fn levels_unless_refused(outcome: u32, device: Device) -> OutputLevels
     ensures { λ r. ⌜ r ≡ levelsUnlessRefused outcome device ⌝ }
 {
@@ -100,8 +100,8 @@ fn levels_unless_refused(outcome: u32, device: Device) -> OutputLevels
     levels(device.outputs())
 }
 
-pub fn run_answered(r: RunResult) -> RunAnswer
-    ensures { λ a. ⌜ a ≡ runAnswered r ⌝ }
+pub fn exported_run(r: RunResult) -> RunAnswer
+    ensures { λ a. ⌜ a ≡ exportedRun r ⌝ }
 {
     let device = r.device;
     RunAnswer {
@@ -114,8 +114,8 @@ pub fn run_answered(r: RunResult) -> RunAnswer
     }
 }
 
-pub fn interpret_answered(r: InterpretResult) -> RunAnswer
-    ensures { λ a. ⌜ a ≡ interpretAnswered r ⌝ }
+pub fn exported_interpret(r: InterpretResult) -> RunAnswer
+    ensures { λ a. ⌜ a ≡ exportedInterpret r ⌝ }
 {
     let device = r.device;
     RunAnswer {
@@ -128,8 +128,8 @@ pub fn interpret_answered(r: InterpretResult) -> RunAnswer
     }
 }
 
-pub fn access_answered(r: AccessReply) -> AccessAnswer
-    ensures { λ a. ⌜ a ≡ accessAnswered r ⌝ }
+pub fn exported_access(r: AccessReply) -> AccessAnswer
+    ensures { λ a. ⌜ a ≡ exportedAccess r ⌝ }
 {
     let outputs = r.outputs;
     AccessAnswer {
@@ -142,8 +142,8 @@ pub fn access_answered(r: AccessReply) -> AccessAnswer
     }
 }
 
-pub fn event_answered(r: EventReply) -> OutputsAnswer
-    ensures { λ a. ⌜ a ≡ eventAnswered r ⌝ }
+pub fn exported_event(r: EventReply) -> OutputsAnswer
+    ensures { λ a. ⌜ a ≡ exportedEvent r ⌝ }
 {
     let outputs = r.outputs;
     OutputsAnswer {
@@ -153,8 +153,8 @@ pub fn event_answered(r: EventReply) -> OutputsAnswer
     }
 }
 
-pub fn outputs_answered(device: Device) -> OutputsAnswer
-    ensures { λ a. ⌜ a ≡ outputsAnswered device ⌝ }
+pub fn exported_outputs(device: Device) -> OutputsAnswer
+    ensures { λ a. ⌜ a ≡ exportedOutputs device ⌝ }
 {
     OutputsAnswer {
         refusal: 0,
@@ -178,8 +178,8 @@ pub fn outputs_refused(refusal: u32) -> OutputsAnswer
 }
 
 // The number in use is that of a valid sequencer, at most 8.
-pub fn sequencer_answered(sequencer: Sequencer) -> SequencerAnswer
-    ensures { λ a. ⌜ a ≡ sequencerAnswered sequencer ⌝ }
+pub fn exported_sequencer(sequencer: Sequencer) -> SequencerAnswer
+    ensures { λ a. ⌜ a ≡ exportedSequencer sequencer ⌝ }
 {
     let counters = sequencer.counters;
     SequencerAnswer {

@@ -19,7 +19,7 @@ ghost use Rattle.sequencer_state.specs.State as sequencerState;
 ghost use Rattle.state.specs.Call.{savedAccess, bytesAfterAccess, savedEvent, bytesAfterEvent};
 ghost use Rattle.state.specs.State as deviceState;
 ghost use Rattle.step.specs.Sequencer.{freshSequencer};
-ghost use Rattle.runnelopal.specs.Answers.{accessAnswered, compileAnswered, eventAnswered};
+ghost use Rattle.runnelopal.specs.Answers.{exportedAccess, exportedCompile, exportedEvent};
 ghost use Rattle.runnelopal.specs.Calls.{
   accessOf,
   afterInterpret,
@@ -35,7 +35,7 @@ ghost use Rattle.runnelopal.specs.Calls.{
 // Compiles a script into the image buffer.
 #[no_mangle]
 pub extern "C" fn runnelopal_raw_compile(script: &[u8], image: &mut [u8]) -> CompileAnswer
-    ensures { λ r. ⌜ (r ≡ compileAnswered (compileResult (now (script .entry)) (now (image .entry)))) × (now (image .exit) ≡ imageAfter (now (script .entry)) (now (image .entry))) ⌝ }
+    ensures { λ r. ⌜ (r ≡ exportedCompile (compileResult (now (script .entry)) (now (image .entry)))) × (now (image .exit) ≡ imageAfter (now (script .entry)) (now (image .entry))) ⌝ }
 {
     let r = compiler::compile(script, image);
     CompileAnswer {
@@ -141,7 +141,7 @@ pub extern "C" fn runnelopal_raw_outputs(device: &[u8]) -> OutputsAnswer
         return answer::outputs_refused(outcome::BAD_STATE);
     }
     let held = runs::device_in(device);
-    answer::outputs_answered(held)
+    answer::exported_outputs(held)
 }
 
 // The place and the counters of a saved sequencer.
@@ -153,7 +153,7 @@ pub extern "C" fn runnelopal_raw_sequencer(sequencer: &[u8]) -> SequencerAnswer
         return answer::sequencer_refused(outcome::BAD_STATE);
     }
     let held = runs::sequencer_in(sequencer);
-    answer::sequencer_answered(held)
+    answer::exported_sequencer(held)
 }
 
 // One access to a saved device.
@@ -165,7 +165,7 @@ pub extern "C" fn runnelopal_raw_access(
     port: u32,
     value: u32,
 ) -> AccessAnswer
-    ensures { λ r. ⌜ (r ≡ accessAnswered (savedAccess (now (device .entry)) (accessOf write width port value))) × (now (device .exit) ≡ bytesAfterAccess (now (device .entry)) (accessOf write width port value)) ⌝ }
+    ensures { λ r. ⌜ (r ≡ exportedAccess (savedAccess (now (device .entry)) (accessOf write width port value))) × (now (device .exit) ≡ bytesAfterAccess (now (device .entry)) (accessOf write width port value)) ⌝ }
 {
     let access = Access {
         write,
@@ -173,13 +173,13 @@ pub extern "C" fn runnelopal_raw_access(
         port,
         value,
     };
-    answer::access_answered(state::call::access(device, access))
+    answer::exported_access(state::call::access(device, access))
 }
 
 // One event on a saved device.
 #[no_mangle]
 pub extern "C" fn runnelopal_raw_event(device: &mut [u8], number: u32) -> OutputsAnswer
-    ensures { λ r. ⌜ (r ≡ eventAnswered (savedEvent (now (device .entry)) number)) × (now (device .exit) ≡ bytesAfterEvent (now (device .entry)) number) ⌝ }
+    ensures { λ r. ⌜ (r ≡ exportedEvent (savedEvent (now (device .entry)) number)) × (now (device .exit) ≡ bytesAfterEvent (now (device .entry)) number) ⌝ }
 {
-    answer::event_answered(state::call::event(device, number))
+    answer::exported_event(state::call::event(device, number))
 }

@@ -17,8 +17,8 @@ ghost use Rattle.runnelopal.specs.Calls.{
   deviceAfter,
   heldInterpret,
   heldRun,
-  notHeld,
-  notHeldScript,
+  unheldRefusal,
+  unheldScriptRefusal,
   savedInterpret,
   savedRun,
   sequencerAfter,
@@ -78,8 +78,8 @@ fn save_sequencer(bytes: &mut [u8], outcome: u32, sequencer: Sequencer)
 // ---- the run of an image
 
 // Bytes that hold no device, or no sequencer, are refused with 11, but a bad image with 10 first.
-fn not_held(image: &[u8]) -> RunAnswer
-    ensures { λ a. ⌜ a ≡ refusedAnswer (notHeld (now (image .entry))) ⌝ }
+fn refuse_unheld(image: &[u8]) -> RunAnswer
+    ensures { λ a. ⌜ a ≡ refusedAnswer (unheldRefusal (now (image .entry))) ⌝ }
 {
     if sequencer::bad_image(image) {
         return refused(outcome::BAD_IMAGE, 0);
@@ -100,13 +100,13 @@ fn run_held(
     ensures { λ a. ⌜ afterRun a (now (device .exit)) (now (sequencer .exit)) (now (log .exit)) ≡ heldRun (now (image .entry)) (now (device .entry)) (now (sequencer .entry)) (now (events .entry)) budget (now (log .entry)) ⌝ }
 {
     let start = device_in(device);
-    let from = sequencer_in(sequencer);
-    let r = sequencer::run(image, start, from, events, budget, log);
+    let given = sequencer_in(sequencer);
+    let r = sequencer::run(image, start, given, events, budget, log);
     let next = r.device;
     let stopped = r.sequencer;
     save_device(device, r.outcome, next);
     save_sequencer(sequencer, r.outcome, stopped);
-    answer::run_answered(r)
+    answer::exported_run(r)
 }
 
 pub fn run(
@@ -120,10 +120,10 @@ pub fn run(
     ensures { λ a. ⌜ afterRun a (now (device .exit)) (now (sequencer .exit)) (now (log .exit)) ≡ savedRun (now (image .entry)) (now (device .entry)) (now (sequencer .entry)) (now (events .entry)) budget (now (log .entry)) ⌝ }
 {
     if !state::holds_device(device) {
-        return not_held(image);
+        return refuse_unheld(image);
     }
     if !sequencer_state::holds_sequencer(sequencer) {
-        return not_held(image);
+        return refuse_unheld(image);
     }
     run_held(image, device, sequencer, events, budget, log)
 }
@@ -131,8 +131,8 @@ pub fn run(
 // ---- a script that is interpreted
 
 // Bytes that hold no device are refused with 11, but a script with a fault with the refusal of the script first.
-fn not_held_script(script: &[u8]) -> RunAnswer
-    ensures { λ a. ⌜ a ≡ refusedAnswer (notHeldScript (now (script .entry))) ⌝ }
+fn refuse_unheld_script(script: &[u8]) -> RunAnswer
+    ensures { λ a. ⌜ a ≡ refusedAnswer (unheldScriptRefusal (now (script .entry))) ⌝ }
 {
     let scan = script::scan(script);
     if scan.number != 0 {
@@ -156,7 +156,7 @@ fn interpret_held(
     let r = interpreter::interpret(script, start, events, budget, log);
     let next = r.device;
     save_device(device, r.outcome, next);
-    answer::interpret_answered(r)
+    answer::exported_interpret(r)
 }
 
 pub fn interpret(
@@ -169,7 +169,7 @@ pub fn interpret(
     ensures { λ a. ⌜ afterInterpret a (now (device .exit)) (now (log .exit)) ≡ savedInterpret (now (script .entry)) (now (device .entry)) (now (events .entry)) budget (now (log .entry)) ⌝ }
 {
     if !state::holds_device(device) {
-        return not_held_script(script);
+        return refuse_unheld_script(script);
     }
     interpret_held(script, device, events, budget, log)
 }

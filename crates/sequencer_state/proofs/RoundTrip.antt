@@ -25,7 +25,8 @@ use Rattle.sequencer_state.specs.State.{
   sequencerSize,
 }
 
--- each field fits four bytes, and there are eight counters. The types of the code ensure it, but for `used`, which a valid sequencer has at most 8
+-- each field fits four bytes, and there are eight counters. The types of the code ensure this, except for `used`, which is at most 8 in a valid
+-- sequencer
 pub record Typed (s : Sequencer) : Type 0 where
   pub place : s .place < 0x1_0000_0000
   pub used : s .used < 0x1_0000_0000

@@ -1,7 +1,7 @@
 -- `runnelopal_raw_sequencer` refuses bytes that are not valid with 11, and otherwise answers for the sequencer that they hold.
 use mathlib.Core.Path.{sym, _∙_}
 use borrow.Author.Tests.{not-false, not-true}
-use Rattle.runnelopal.proofs.Held.{valid-holds-sequencer}
+use Rattle.runnelopal.proofs.SavedCalls.{valid-holds-sequencer}
 use borrow.Author.Needs.{needs}
 use Rattle.runnelopal.proofs.runnelopal_raw_sequencer.Statement.{statement}
 use Rattle.runnelopal.proofs.runnelopal_raw_sequencer.Tie as tie
@@ -18,11 +18,11 @@ returns c = c .sequencer-refused .ensures ∙ rw (← (c .before .before .runnel
 sequencer-in-requires : tie.Need-sequencer-in-requires
 sequencer-in-requires c κs = valid-holds-sequencer (c .before .before .before .args .sequencer .now) (sym (c .before .runnelopal-raw-valid-sequencer .ensures) ∙ not-false _ (c .if1 .left))
 
-sequencer-answered-requires : tie.Need-sequencer-answered-requires
-sequencer-answered-requires c κs = search needs
+exported-sequencer-requires : tie.Need-exported-sequencer-requires
+exported-sequencer-requires c κs = search needs
 
 returns-2 : tie.Need-returns-2
-returns-2 c = c .sequencer-answered .ensures ∙ rw (← (c .before .before .before .runnelopal-raw-valid-sequencer .ensures), not-false (c .before .before .before .runnelopal-raw-valid-sequencer .result) (c .before .before .if1 .left), c .before .sequencer-in .ensures)
+returns-2 c = c .exported-sequencer .ensures ∙ rw (← (c .before .before .before .runnelopal-raw-valid-sequencer .ensures), not-false (c .before .before .before .runnelopal-raw-valid-sequencer .result) (c .before .before .if1 .left), c .before .sequencer-in .ensures)
 
 pub runnelopal-raw-sequencer-spec : {M : Type 1} → statement M
 runnelopal-raw-sequencer-spec =
@@ -32,5 +32,5 @@ runnelopal-raw-sequencer-spec =
     sequencer-refused-requires
     returns
     sequencer-in-requires
-    sequencer-answered-requires
+    exported-sequencer-requires
     returns-2)

@@ -1,5 +1,5 @@
 -- `device_in` loads the device that the bytes hold.
-use Rattle.runnelopal.proofs.Held.{held-device}
+use Rattle.runnelopal.proofs.SavedCalls.{held-device}
 use borrow.Author.Needs.{needs}
 use Rattle.runnelopal.proofs.runs.device_in.Statement.{statement}
 use Rattle.runnelopal.proofs.runs.device_in.Tie as tie

@@ -1,7 +1,7 @@
 -- `interpret` refuses bytes that hold no device, and otherwise leaves what `interpret_held` leaves.
 use mathlib.Core.Path.{sym, _∙_}
 use borrow.Author.Tests.{not-false}
-use Rattle.runnelopal.proofs.Held.{device-held, no-device-for-script}
+use Rattle.runnelopal.proofs.SavedCalls.{device-held, no-device-for-script}
 use borrow.Author.Needs.{needs}
 use Rattle.runnelopal.proofs.runs.interpret.Statement.{statement}
 use Rattle.runnelopal.proofs.runs.interpret.Tie as tie
@@ -9,8 +9,8 @@ use Rattle.runnelopal.proofs.runs.interpret.Tie as tie
 holds-device-requires : tie.Need-holds-device-requires
 holds-device-requires c κs = search needs
 
-not-held-script-requires : tie.Need-not-held-script-requires
-not-held-script-requires c κs = search needs
+refuse-unheld-script-requires : tie.Need-refuse-unheld-script-requires
+refuse-unheld-script-requires c κs = search needs
 
 same-length : tie.Need-same-length
 same-length c = search needs
@@ -35,7 +35,7 @@ interpret-spec =
     tie.close
     (tie.spec
     holds-device-requires
-    not-held-script-requires
+    refuse-unheld-script-requires
     same-length
     returns
     interpret-held-requires

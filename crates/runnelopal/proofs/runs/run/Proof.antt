@@ -1,7 +1,7 @@
 -- `run` refuses bytes that hold no device or no sequencer, and otherwise leaves what `run_held` leaves.
 use mathlib.Core.Path.{sym, _∙_}
 use borrow.Author.Tests.{not-false}
-use Rattle.runnelopal.proofs.Held.{both-held, no-device, no-sequencer}
+use Rattle.runnelopal.proofs.SavedCalls.{both-held, no-device, no-sequencer}
 use borrow.Author.Needs.{needs}
 use Rattle.runnelopal.proofs.runs.run.Statement.{statement}
 use Rattle.runnelopal.proofs.runs.run.Tie as tie
@@ -9,8 +9,8 @@ use Rattle.runnelopal.proofs.runs.run.Tie as tie
 holds-device-requires : tie.Need-holds-device-requires
 holds-device-requires c κs = search needs
 
-not-held-requires : tie.Need-not-held-requires
-not-held-requires c κs = search needs
+refuse-unheld-requires : tie.Need-refuse-unheld-requires
+refuse-unheld-requires c κs = search needs
 
 same-length : tie.Need-same-length
 same-length c = search needs
@@ -21,8 +21,8 @@ returns c = search no-device
 holds-sequencer-requires : tie.Need-holds-sequencer-requires
 holds-sequencer-requires c κs = search needs
 
-not-held-requires-2 : tie.Need-not-held-requires-2
-not-held-requires-2 c κs = search needs
+refuse-unheld-requires-2 : tie.Need-refuse-unheld-requires-2
+refuse-unheld-requires-2 c κs = search needs
 
 same-length-2 : tie.Need-same-length-2
 same-length-2 c = search needs
@@ -33,7 +33,7 @@ same-length-3 c = search needs
 returns-2 : tie.Need-returns-2
 returns-2 c =
     let e = c .before .before .before .before .before .before .before .before .before .before .before .before .args in
-    no-sequencer (e .image .now) (e .device .now) (e .sequencer .now) (e .events .now) (e .budget) (e .log .now) (c .before .before .before .before .before .holds-device .ensures) (c .before .before .holds-sequencer .ensures) (c .before .before .before .before .if1 .left) (c .before .if2 .taken) (c .not-held2 .ensures)
+    no-sequencer (e .image .now) (e .device .now) (e .sequencer .now) (e .events .now) (e .budget) (e .log .now) (c .before .before .before .before .before .holds-device .ensures) (c .before .before .holds-sequencer .ensures) (c .before .before .before .before .if1 .left) (c .before .if2 .taken) (c .refuse-unheld2 .ensures)
 
 run-held-requires : tie.Need-run-held-requires
 run-held-requires c κs =
@@ -56,11 +56,11 @@ run-spec =
     tie.close
     (tie.spec
     holds-device-requires
-    not-held-requires
+    refuse-unheld-requires
     same-length
     returns
     holds-sequencer-requires
-    not-held-requires-2
+    refuse-unheld-requires-2
     same-length-2
     same-length-3
     returns-2

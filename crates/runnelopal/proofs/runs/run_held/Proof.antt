@@ -1,5 +1,5 @@
 -- `run_held` leaves what `heldRun` says: `run` gets the device and the sequencer that the bytes hold, and both are saved unless it refuses.
-use Rattle.runnelopal.proofs.Held.{ran-held}
+use Rattle.runnelopal.proofs.SavedCalls.{ran-held}
 use borrow.Author.Needs.{needs}
 use Rattle.runnelopal.proofs.runs.run_held.Statement.{statement}
 use Rattle.runnelopal.proofs.runs.run_held.Tie as tie
@@ -19,8 +19,8 @@ save-device-requires c κs = search needs
 save-sequencer-requires : tie.Need-save-sequencer-requires
 save-sequencer-requires c κs = search needs
 
-run-answered-requires : tie.Need-run-answered-requires
-run-answered-requires c κs = search needs
+exported-run-requires : tie.Need-exported-run-requires
+exported-run-requires c κs = search needs
 
 same-length : tie.Need-same-length
 same-length c = search needs
@@ -34,7 +34,7 @@ same-length-3 c = search needs
 returns : tie.Need-returns
 returns c =
     let e = c .before .before .before .before .before .before .before .before .before .before .before .before .before .before .before .before .before .before .before .before .before .before .before .before .args in
-    ran-held (e .image .now) (e .device .now) (e .sequencer .now) (e .events .now) (e .budget) (e .log .now) (c .before .before .before .before .before .before .before .before .before .before .before .before .before .before .before .before .before .device-in .ensures) (c .before .before .before .before .before .before .before .before .before .before .before .before .before .before .before .sequencer-in .ensures) (c .before .before .before .before .before .before .before .before .before .before .before .before .before .run .ensures) (c .before .before .before .before .before .before .before .save-device .ensures) (c .before .before .before .save-sequencer .ensures) (c .run-answered .ensures)
+    ran-held (e .image .now) (e .device .now) (e .sequencer .now) (e .events .now) (e .budget) (e .log .now) (c .before .before .before .before .before .before .before .before .before .before .before .before .before .before .before .before .before .device-in .ensures) (c .before .before .before .before .before .before .before .before .before .before .before .before .before .before .before .sequencer-in .ensures) (c .before .before .before .before .before .before .before .before .before .before .before .before .before .run .ensures) (c .before .before .before .before .before .before .before .save-device .ensures) (c .before .before .before .save-sequencer .ensures) (c .exported-run .ensures)
 
 pub run-held-spec : {M : Type 1} → statement M
 run-held-spec =
@@ -45,7 +45,7 @@ run-held-spec =
     run-requires
     save-device-requires
     save-sequencer-requires
-    run-answered-requires
+    exported-run-requires
     same-length
     same-length-2
     same-length-3

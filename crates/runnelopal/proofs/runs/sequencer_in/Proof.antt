@@ -1,5 +1,5 @@
 -- `sequencer_in` loads the sequencer that the bytes hold.
-use Rattle.runnelopal.proofs.Held.{held-sequencer}
+use Rattle.runnelopal.proofs.SavedCalls.{held-sequencer}
 use borrow.Author.Needs.{needs}
 use Rattle.runnelopal.proofs.runs.sequencer_in.Statement.{statement}
 use Rattle.runnelopal.proofs.runs.sequencer_in.Tie as tie

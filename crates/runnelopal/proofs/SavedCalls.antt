@@ -24,15 +24,15 @@ use Rattle.state.proofs.Slices.{loaded-or}
 use Rattle.state.specs.State.{deviceFrom, deviceOr, holdsDevice, loaded, saved as savedDevice}
 use Rattle.step.specs.Sequencer.{freshSequencer, sequencerInRange}
 use Rattle.step.specs.declared.Sequencer.{Sequencer}
-use Rattle.runnelopal.specs.Answers.{interpretAnswered, levels, levelsUnlessRefused, refusedAnswer, runAnswered}
+use Rattle.runnelopal.specs.Answers.{exportedInterpret, levels, levelsUnlessRefused, refusedAnswer, exportedRun}
 use Rattle.runnelopal.specs.Calls.{
   afterInterpret,
   afterRun,
   deviceAfter,
   heldInterpret,
   heldRun,
-  notHeld,
-  notHeldScript,
+  unheldRefusal,
+  unheldScriptRefusal,
   savedInterpret,
   savedRun,
   sequencerAfter,
@@ -44,14 +44,14 @@ use Rattle.runnelopal.specs.declared.answer.RunAnswer.{RunAnswer}
 -- ---- a run
 module _ (image device sequencer events : List ℕ) (budget : ℕ) (log : List ℕ) where
   pub no-device :
-      {a : RunAnswer} {h : Bool} → h ≡ holdsDevice device → not h ≡ true → a ≡ refusedAnswer (notHeld image)
+      {a : RunAnswer} {h : Bool} → h ≡ holdsDevice device → not h ≡ true → a ≡ refusedAnswer (unheldRefusal image)
       → afterRun a device sequencer log ≡ savedRun image device sequencer events budget log
   unfolding savedRun
   no-device {h = h} e n r = rw (r, ← e, not-true h n)
 
   pub no-sequencer :
       {a : RunAnswer} {h k : Bool} → h ≡ holdsDevice device → k ≡ holdsSequencer sequencer → not h ≡ false → not k ≡ true
-      → a ≡ refusedAnswer (notHeld image) → afterRun a device sequencer log ≡ savedRun image device sequencer events budget log
+      → a ≡ refusedAnswer (unheldRefusal image) → afterRun a device sequencer log ≡ savedRun image device sequencer events budget log
   unfolding savedRun
   no-sequencer {h = h} {k = k} e f n m r = rw (r, ← e, ← f, not-false h n, not-true k m)
 
@@ -66,14 +66,14 @@ module _ (image device sequencer events : List ℕ) (budget : ℕ) (log : List �
       {a : RunAnswer} {r : RunResult} {d : Device} {s : Sequencer} {device' sequencer' log' : List ℕ} → d ≡ deviceFrom device
       → s ≡ sequencerFrom sequencer → (r ≡ runAnswer image d s events budget log) × (log' ≡ logAfter image d s events budget log)
       → device' ≡ deviceAfter (r .outcome) (r .device) device → sequencer' ≡ sequencerAfter (r .outcome) (r .sequencer) sequencer
-      → a ≡ runAnswered r → afterRun a device' sequencer' log' ≡ heldRun image device sequencer events budget log
+      → a ≡ exportedRun r → afterRun a device' sequencer' log' ≡ heldRun image device sequencer events budget log
   unfolding heldRun
   ran-held p q e f g h = rw (h, f, g, e .1, e .0, p, q)
 
 -- ---- a script that is interpreted
 module _ (script device events : List ℕ) (budget : ℕ) (log : List ℕ) where
   pub no-device-for-script :
-      {a : RunAnswer} {h : Bool} → h ≡ holdsDevice device → not h ≡ true → a ≡ refusedAnswer (notHeldScript script)
+      {a : RunAnswer} {h : Bool} → h ≡ holdsDevice device → not h ≡ true → a ≡ refusedAnswer (unheldScriptRefusal script)
       → afterInterpret a device log ≡ savedInterpret script device events budget log
   unfolding savedInterpret
   no-device-for-script {h = h} e n r = rw (r, ← e, not-true h n)
@@ -87,7 +87,7 @@ module _ (script device events : List ℕ) (budget : ℕ) (log : List ℕ) where
   pub interpreted-held :
       {a : RunAnswer} {r : InterpretResult} {d : Device} {device' log' : List ℕ} → d ≡ deviceFrom device
       → (r ≡ interpretResult script d events budget log) × (log' ≡ interpretLog script d events budget log)
-      → device' ≡ deviceAfter (r .outcome) (r .device) device → a ≡ interpretAnswered r
+      → device' ≡ deviceAfter (r .outcome) (r .device) device → a ≡ exportedInterpret r
       → afterInterpret a device' log' ≡ heldInterpret script device events budget log
   unfolding heldInterpret
   interpreted-held p e f h = rw (h, f, e .1, e .0, p)
@@ -98,12 +98,12 @@ module _ (script : List ℕ) (s : ScanResult) (e : s ≡ scriptScan script) wher
   unfolding scriptScan
   scanned = rw e
 
-  pub script-first : (s .number ≡ 0 → ⊥) → refusal (s .number) (s .place) ≡ notHeldScript script
+  pub script-first : (s .number ≡ 0 → ⊥) → refusal (s .number) (s .place) ≡ unheldScriptRefusal script
   script-first n =
       let k : eqb (scriptRefusal script .number) 0 ≡ false = rw (ap (λ (f : Refusal). f .number) scanned) at (ne-eqb (s .number) 0 n) in
       rw k scanned
 
-  pub then-device : s .number ≡ 0 → refusal 11 0 ≡ notHeldScript script
+  pub then-device : s .number ≡ 0 → refusal 11 0 ≡ unheldScriptRefusal script
   then-device z =
       let k : eqb (scriptRefusal script .number) 0 ≡ true = rw (ap (λ (f : Refusal). f .number) scanned) at (eq-eqb (s .number) 0 z) in
       rw k

@@ -1,4 +1,4 @@
--- A run does not look at what was logged and accessed before it. So a run that starts with entries and accesses in front does the same steps as
+-- A run does not depend on what was logged and accessed before it. So a run that starts with entries and accesses in front makes the same steps as
 -- one that starts with none, if its log has as much room left; its entries and accesses follow those in front.
 use Prim.Native.Nat.{ℕ, zero, suc, _+_, _-_, _≤_, _<_}
 use mathlib.Core.Path.{_≡_, refl, ap, sym, _∙_}
