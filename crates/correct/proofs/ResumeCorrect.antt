@@ -100,7 +100,7 @@ refusal-not-19 image d s events =
     (branch Refuses19 (badState d s) (λ h. omega (arith, h))
     (branch Refuses19 (ltb 4096 (length events)) (λ h. omega (arith, h)) (bad-not-19 0 events)))
 
-not-refused :
+pub not-refused :
     (image : List ℕ) (d : Device) (s : Sequencer) (events : List ℕ) (a : ℕ) (log : List ℕ) → runAnswer image d s events a log .outcome ≡ 19
     → runRefusal image d s events .number ≡ 0
 unfolding runAnswer

@@ -1,1 +1,2 @@
 pub mod SavedCalls
+pub mod Valid

@@ -1,29 +1,16 @@
--- A sequencer that is saved and loaded is the same sequencer. 40 bytes, loaded and saved, are the same bytes.
-use Prim.Native.Nat.{ℕ, _+_, _<_}
-use mathlib.Core.Path.{_≡_, refl, _∙_}
-use mathlib.Core.Bool.{Bool, true, false, cond}
+-- Loading what was saved returns the sequencer, and saving what was loaded returns the bytes.
+use Prim.Native.Nat.{ℕ, _<_}
+use mathlib.Core.Path.{_≡_, refl, ap, _∙_}
 use mathlib.Core.List.{List}
-use borrow.Author.Tests.{eq-eqb}
 use lib.ListN.{getD, length}
-use native.Mathlib.Omega.{arith}
 use Rattle.lists.proofs.Slice.{slice-whole}
 use Rattle.lists.specs.Slice.{slice}
 use Rattle.little_endian.proofs.ReadBack.{byte0-four, byte1-four, byte2-four, byte3-four, four-back}
 use Rattle.little_endian.specs.Bytes.{byte0, byte1, byte2, byte3, four}
-use Rattle.outcome.specs.Number as number
 use Rattle.outcome.specs.Refusal.{refusal}
-use Rattle.step.specs.Sequencer.{freshSequencer}
 use Rattle.step.specs.declared.Sequencer.{Sequencer}
-use Rattle.sequencer_state.specs.State.{
-  countersFrom,
-  holdsSequencer,
-  loaded,
-  saved,
-  sequencerBytes,
-  sequencerFrom,
-  sequencerOr,
-  sequencerSize,
-}
+use Rattle.sequencer_state.specs.State.{loaded, sequencerBytes, sequencerFrom, sequencerSize}
+use Rattle.sequencer_state.specs.declared.LoadResult.{LoadResult}
 
 -- each field fits four bytes, and there are eight counters. The types of the code ensure this, except for `used`, which is at most 8 in a valid
 -- sequencer
@@ -38,12 +25,17 @@ pub bytes-length : (s : Sequencer) → length (sequencerBytes s) ≡ sequencerSi
 bytes-length s = refl
 
 module _ (s : Sequencer) (t : Typed s) where
-  pub load-back : sequencerFrom (sequencerBytes s) ≡ s
+  pub sequencer-back : sequencerFrom (sequencerBytes s) ≡ s
   unfolding sequencerFrom
-  load-back =
+  sequencer-back =
       let c : ℕ → ℕ = λ k. getD (s .counters) k 0 in
       let b : (k : ℕ) → four (byte0 (c k)) (byte1 (c k)) (byte2 (c k)) (byte3 (c k)) ≡ c k = λ k. four-back (c k) (t .counter k) in
       rw (four-back (s .place) (t .place), four-back (s .used) (t .used), b 0, b 1, b 2, b 3, b 4, b 5, b 6, b 7, slice-whole 0 8 (s .counters) (t .counters))
+
+  -- the same for `load`, which also checks the length
+  pub load-back : loaded (sequencerBytes s) ≡ record { refusal = refusal 0 0; sequencer = s }
+  unfolding loaded
+  load-back = ap {B = LoadResult} (λ (x : Sequencer). record { refusal = refusal 0 0; sequencer = x }) sequencer-back
 
 -- ---- bytes, loaded and saved
 module _ (bytes : List ℕ) (byte : (k : ℕ) → getD bytes k 0 < 256) where
@@ -63,10 +55,10 @@ module _ (bytes : List ℕ) (byte : (k : ℕ) → getD bytes k 0 < 256) where
   fourth : (i j k l : ℕ) → byte3 (four (b i) (b j) (b k) (b l)) ≡ b l
   fourth i j k l = byte3-four (b i) (b j) (b k) (b l) (byte i) (byte j) (byte k) (byte l)
 
-  bytes-back : sequencerBytes (sequencerFrom bytes) ≡ slice 0 sequencerSize 0 bytes
+  each-byte : sequencerBytes (sequencerFrom bytes) ≡ slice 0 sequencerSize 0 bytes
   unfolding sequencerFrom
-  bytes-back = simp (first, second, third, fourth)
+  each-byte = simp (first, second, third, fourth)
 
-pub save-back :
+pub bytes-back :
     (bytes : List ℕ) → length bytes ≡ sequencerSize → ((k : ℕ) → getD bytes k 0 < 256) → sequencerBytes (sequencerFrom bytes) ≡ bytes
-save-back bytes n byte = bytes-back bytes byte ∙ slice-whole 0 sequencerSize bytes n
+bytes-back bytes n byte = each-byte bytes byte ∙ slice-whole 0 sequencerSize bytes n
