@@ -1,2 +1,3 @@
+pub mod ResumeSaved
 pub mod SavedCalls
 pub mod Valid
