@@ -5,7 +5,8 @@
  * Complete programs: bindings/c/example.c (a whole run), resume.c (a run in parts), single_step.c (word by word).
  *
  * The library keeps nothing between two calls. A device and a sequencer are bytes of the caller: a call reads them and, if it is not
- * refused, replaces them by those after it. A new run starts from runnelopal_fresh_device and runnelopal_fresh_sequencer.
+ * refused, replaces them by those after it. A new run starts from a fresh sequencer, on a fresh device or any other: see
+ * runnelopal_fresh_sequencer and runnelopal_fresh_device.
  *
  * Every buffer is passed as a pointer and a number of elements. A null pointer stands for a buffer without elements, whatever the number.
  * Any other pointer must be to that many elements, and a buffer that a call writes must not overlap any other buffer of the same call.
@@ -174,7 +175,7 @@ typedef struct runnelopal_sequencer_answer {
     uint32_t refusal; /* 0 or 11 */
     uint32_t place;   /* the index of the next word, or of the halt at which a run ended */
     uint32_t used;    /* how many counters are in use, which is how many loops are open */
-    uint32_t counters[RUNNELOPAL_COUNTERS]; /* the turns left, that of the outermost loop first; 0 if not in use */
+    uint32_t counters[RUNNELOPAL_COUNTERS]; /* the turns left in each open loop, the present one included, outermost first; others 0 */
 } runnelopal_sequencer_answer;
 
 /* ---- The symbols of the library. They take no null pointers; call the functions below, which do. */
@@ -221,14 +222,16 @@ static inline runnelopal_compile_answer runnelopal_compile(const uint8_t *script
  * Afterwards `device` and `sequencer` are those after the run. Refusals: 10, then 11 for the device or the sequencer, then 12.
  *
  * A run that ended with 19 is resumed with the same image, the device and the sequencer that it left, the events that it did not take
- * and the room that is left in the log. A budget of a and then of b gives the same as one run with a + b; steps, taken and logged add up:
+ * and the room that is left in the log. A budget of a and then of b gives the same as one run with a + b, if a + b fits 32 bits; steps,
+ * taken and logged add up. With a budget of at least 1:
  *
  *     do {
  *         part = runnelopal_run(image, bytes, device, sizeof device, sequencer, sizeof sequencer, events, count, budget, log, room);
  *         events += part.taken, count -= part.taken, log += part.logged, room -= part.logged;
  *     } while (part.outcome == RUNNELOPAL_BUDGET_SPENT);
  *
- * A call with budget 1 executes one word. A run that is resumed after a halt halts again and counts one step. */
+ * A call with budget 1 executes one word. A run that is resumed after a halt halts again and counts one step, and after a fault the fault
+ * occurs again. */
 static inline runnelopal_run_answer runnelopal_run(const uint8_t *image, size_t image_bytes, uint8_t *device, size_t device_bytes,
                                                    uint8_t *sequencer, size_t sequencer_bytes, const uint32_t *events, size_t event_count,
                                                    uint32_t budget, uint64_t *log, size_t log_count)
@@ -281,29 +284,30 @@ static inline runnelopal_outputs_answer runnelopal_outputs(const uint8_t *device
     return runnelopal_raw_outputs(device ? device : &none, device ? device_bytes : 0);
 }
 
-/* Saves a fresh device, the chip after power-on, in `device`. Returns 0, or refusal 11 if that is not RUNNELOPAL_DEVICE_BYTES long. */
+/* Saves a fresh device, the chip after power-on, in `device`. Returns 0, or refusal 11, at place 0, if that is not
+ * RUNNELOPAL_DEVICE_BYTES long. */
 static inline uint32_t runnelopal_fresh_device(uint8_t *device, size_t device_bytes)
 {
     uint8_t none = 0;
     return runnelopal_raw_fresh_device(device ? device : &none, device ? device_bytes : 0);
 }
 
-/* Saves a fresh sequencer in `sequencer`: place 0, no counter in use. Returns 0, or refusal 11 if that is not RUNNELOPAL_SEQUENCER_BYTES
- * long. */
+/* Saves a fresh sequencer in `sequencer`: place 0, no counter in use. Returns 0, or refusal 11, at place 0, if that is not
+ * RUNNELOPAL_SEQUENCER_BYTES long. */
 static inline uint32_t runnelopal_fresh_sequencer(uint8_t *sequencer, size_t sequencer_bytes)
 {
     uint8_t none = 0;
     return runnelopal_raw_fresh_sequencer(sequencer ? sequencer : &none, sequencer ? sequencer_bytes : 0);
 }
 
-/* Whether the bytes are a valid device: whether the other calls take it, and do not refuse it with 11. */
+/* Whether the bytes are a valid device: whether no call refuses it with 11. */
 static inline bool runnelopal_valid_device(const uint8_t *device, size_t device_bytes)
 {
     uint8_t none = 0;
     return runnelopal_raw_valid_device(device ? device : &none, device ? device_bytes : 0);
 }
 
-/* Whether the bytes are a valid sequencer. */
+/* Whether the bytes are a valid sequencer: whether no call refuses it with 11. */
 static inline bool runnelopal_valid_sequencer(const uint8_t *sequencer, size_t sequencer_bytes)
 {
     uint8_t none = 0;

@@ -376,7 +376,7 @@ impl Generator {
     }
 
     /// One more run with what is left. A halted run halts again, and a fault occurs again. After a
-    /// full log the run sometimes goes on with another log, and after a spent budget it goes on.
+    /// full log the run is sometimes resumed with another log, and after a spent budget it is resumed.
     fn after_the_end(&mut self, run: &Run, sum: &Sum, last: &Ran) {
         let ending = ended(last).ending;
         match ending {

@@ -350,7 +350,7 @@ impl Parts {
         assert_eq!(whole.outcome, Ok(sum));
         assert_eq!(self.second.device, whole.device);
         assert_eq!(self.second.sequencer, whole.sequencer);
-        // The log of the second part is the rest of the log of the whole, as lent behind it.
+        // The log of the second part is the rest of the log of the whole, as lent after it.
         let front = &self.first.log[..one.values_logged];
         assert_eq!([front, &self.second.log].concat(), whole.log);
         let accesses = [&self.first.accesses[..], &self.second.accesses].concat();

@@ -6,7 +6,7 @@
 //! device and of a saved sequencer.
 //!
 //! The library keeps nothing between two calls. A [`Device`] and a [`Sequencer`] are bytes of the caller: a call reads them and, if it is not
-//! refused, replaces them by those after it. A new run starts from [`Device::fresh`] and [`Sequencer::fresh`].
+//! refused, replaces them by those after it. A new run starts from [`Sequencer::fresh`], on [`Device::fresh`] or any other device.
 //!
 //! Complete programs, in `examples/`: `trace.rs` (a whole run), `resume.rs` (a run in parts), `single_step.rs` (word by word).
 
@@ -367,8 +367,8 @@ fn ended(answer: raw::RunAnswer) -> Result<Run, Refusal> {
 /// sequencer, then 12.
 ///
 /// A run that ended with [`ending::BUDGET_SPENT`] is resumed with the same image, the device and the sequencer that it left, the events that
-/// it did not take and the room that is left in the log. A budget of a and then of b gives the same as one run with a + b; steps, taken and
-/// logged add up:
+/// it did not take and the room that is left in the log. A budget of a and then of b gives the same as one run with a + b, if a + b fits 32
+/// bits; steps, taken and logged add up. With a budget of at least 1, here 1,000:
 ///
 /// ```no_run
 /// # use runnelopal::{ending, run, Device, Refusal, Sequencer};
@@ -382,7 +382,8 @@ fn ended(answer: raw::RunAnswer) -> Result<Run, Refusal> {
 /// # }
 /// ```
 ///
-/// A call with budget 1 executes one word. A run that is resumed after a halt halts again and counts one step.
+/// A call with budget 1 executes one word. A run that is resumed after a halt halts again and counts one step, and after a fault the fault
+/// occurs again.
 pub fn run(
     image: &[u8],
     device: &mut Device,
@@ -445,8 +446,8 @@ pub struct Answer {
 /// A saved device. `Device::try_from(bytes)` loads one from a slice and refuses bytes that are not a valid device with 11.
 #[derive(Clone, Debug, PartialEq, Eq)]
 pub struct Device {
-    /// The saved bytes, in the layout of `docs/STATE.md`. Any bytes may be stored here; if they are not a valid device, each call is refused
-    /// with 11.
+    /// The saved bytes, in the layout of `docs/STATE.md`. Any bytes may be stored here; if they are not a valid device, each call that uses
+    /// them is refused, with 11 unless another refusal comes first.
     pub bytes: [u8; DEVICE_BYTES],
 }
 
@@ -459,7 +460,7 @@ impl Device {
         Device { bytes }
     }
 
-    /// Whether the bytes are a valid device: whether the other calls take it, and do not refuse it with 11.
+    /// Whether the bytes are a valid device: whether no call refuses it with 11.
     pub fn is_valid(&self) -> bool {
         // SAFETY: as in `compile`.
         unsafe { raw::runnelopal_raw_valid_device(self.bytes.as_ptr(), self.bytes.len()) }
@@ -530,7 +531,7 @@ pub struct SequencerView {
     pub place: u32,
     /// How many counters are in use, which is how many loops are open: at most [`COUNTERS`].
     pub used: usize,
-    /// The turns left, that of the outermost loop first; 0 if not in use.
+    /// The turns left in each open loop, the present one included, outermost first; the others are 0.
     pub counters: [u32; COUNTERS],
 }
 
@@ -544,8 +545,8 @@ impl SequencerView {
 /// A saved sequencer. `Sequencer::try_from(bytes)` loads one from a slice and refuses bytes that are not a valid sequencer with 11.
 #[derive(Clone, Debug, PartialEq, Eq)]
 pub struct Sequencer {
-    /// The saved bytes, in the layout of `docs/STATE.md`. Any bytes may be stored here; if they are not a valid sequencer, each call is
-    /// refused with 11.
+    /// The saved bytes, in the layout of `docs/STATE.md`. Any bytes may be stored here; if they are not a valid sequencer, each call that uses
+    /// them is refused, with 11 unless another refusal comes first.
     pub bytes: [u8; SEQUENCER_BYTES],
 }
 
@@ -558,7 +559,7 @@ impl Sequencer {
         Sequencer { bytes }
     }
 
-    /// Whether the bytes are a valid sequencer.
+    /// Whether the bytes are a valid sequencer: whether no call refuses it with 11.
     pub fn is_valid(&self) -> bool {
         // SAFETY: as in `compile`.
         unsafe { raw::runnelopal_raw_valid_sequencer(self.bytes.as_ptr(), self.bytes.len()) }

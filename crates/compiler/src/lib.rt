@@ -1,5 +1,5 @@
 // The compiler: checks a script, writes its words to the front of the image buffer, and returns their number or a refusal.
-// `compile` is the only public call; `correct`, `runnelopal` and `replay` use it. It relies on `script::scan` for refusals 1
+// `compile` is the only public call; `trace`, `runnelopal` and `replay` use it. It relies on `script::scan` for refusals 1
 // to 8. See docs/CHIP.md, "Words" and "Refusals".
 use record::Record;
 use record::word_kind;

@@ -1,5 +1,5 @@
 // Numbers of two and four bytes, least significant byte first. See docs/CHIP.md, "Records", and docs/STATE.md.
-// `record` and the saved forms of the register blocks use it.
+// `record`, `sequencer_state` and the saved forms of the register blocks use it.
 ghost use mathlib.Core.Path.{_≡_};
 ghost use Prim.Native.Nat.{_+_, _≤_};
 ghost use lib.ListN.{length};

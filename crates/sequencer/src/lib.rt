@@ -1,5 +1,5 @@
-// The sequencer: `run` runs an image on a device until it halts, faults or has spent its budget. `correct`, `runnelopal` and
-// `replay` call it. What one word does is in `step`. See docs/CHIP.md, "Runs" and "Refusals".
+// The sequencer: `run` runs an image on a device until it halts, faults or has spent its budget. `trace`, `runnelopal` and
+// `replay` call it. What one word does is in `step`. See docs/CHIP.md, "Runs", "Resuming a run" and "Refusals".
 use access::Answer;
 use device::AccessResult;
 use device::Device;
