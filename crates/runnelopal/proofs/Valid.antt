@@ -1,5 +1,5 @@
--- Valid bytes are those that are not refused with 11: a run, a single access and a single event give 11 exactly if the bytes are not valid, unless an
--- earlier refusal applies. The bytes of the fresh device and of the fresh sequencer are valid.
+-- Valid bytes are those that are not refused with 11: a run, a script that is interpreted, a single access and a single event give 11 exactly if the
+-- bytes are not valid, unless an earlier refusal applies. The bytes of the fresh device and of the fresh sequencer are valid.
 use Prim.Native.Nat.{ℕ, suc}
 use mathlib.Core.Path.{_≡_, refl, ap, sym, _∙_}
 use mathlib.Core.Logic.{_↔_}
@@ -9,13 +9,19 @@ use native.Mathlib.Decide.{ℕ-discrete}
 use native.Mathlib.Omega.{arith}
 use borrow.Author.Tests.{eq-eqb, ne-eqb}
 use lib.Dec.{eqb, ltb}
-use lib.ListN.{length}
+use lib.ListN.{length, length-replicate, replicate}
 use Rattle.access.specs.declared.Access.{Access}
 use Rattle.acpi.specs.Acpi.{acpiInRange}
 use Rattle.acpi.specs.Map.{legalMap}
 use Rattle.acpi.specs.Saved.{acpiFrom}
+use Rattle.compiler.proofs.Compiling.{accepts-all}
+use Rattle.compiler.specs.Compile.{compileResult}
+use Rattle.compiler.specs.Words.{wordsOf}
 use Rattle.config.specs.Config.{configInRange}
 use Rattle.config.specs.Saved.{configFrom}
+use Rattle.correct.proofs.InterpreterCorrect.{interpreter-correct}
+use Rattle.correct.proofs.WholeRun.{fresh-in-range, good-image, words-many, written-are}
+use Rattle.correct.specs.CompilerCorrect.{Bytes, wordsWritten}
 use Rattle.device.specs.Device.{deviceInRange, freshDevice}
 use Rattle.device.specs.Dispatch.{deviceAccess}
 use Rattle.device.specs.Event.{applyEvent, isEvent}
@@ -25,6 +31,7 @@ use Rattle.interpreter.specs.Interpret.{interpretRefusal, interpretResult}
 use Rattle.mask.proofs.Branch.{branch}
 use Rattle.outcome.specs.Refusal.{refusal}
 use Rattle.outcome.specs.declared.Refusal.{Refusal}
+use Rattle.script.proofs.Flat.{accepts}
 use Rattle.script.specs.Refusals.{scriptRefusal}
 use Rattle.sequencer.proofs.Endings.{image-run-ends}
 use Rattle.sequencer.specs.Run.{badImage, eventsRefusal, firstBadEvent, imageRun, isRefusal, runAnswer, runRefusal}
@@ -34,7 +41,18 @@ use Rattle.state.specs.State.{deviceFrom, holdsDevice, stateBytes}
 use Rattle.step.specs.Sequencer.{freshSequencer, sequencerInRange}
 use Rattle.step.specs.declared.Sequencer.{Sequencer}
 use Rattle.runnelopal.specs.Answers.{refusedAnswer}
-use Rattle.runnelopal.specs.Calls.{afterRun, heldInterpret, heldRun, savedInterpret, savedRun, unheldRefusal, validDevice, validSequencer}
+use Rattle.runnelopal.specs.Calls.{
+  afterInterpret,
+  afterRun,
+  heldInterpret,
+  heldRun,
+  savedInterpret,
+  savedRun,
+  unheldRefusal,
+  unheldScriptRefusal,
+  validDevice,
+  validSequencer,
+}
 
 -- ---- a valid device and a valid sequencer are not refused with 11
 abbrev Not11 : ℕ → Type 0
@@ -132,20 +150,49 @@ event-refused bytes n = pick (holdsDevice bytes) (deviceInRange (deviceFrom byte
     pick true true false = (λ z. absurd (omega (arith, z)), λ z. absurd (false≢true (sym z)))
 
 -- ---- a script that is interpreted
-pub interpret-refused :
-    (script device events : List ℕ) (budget : ℕ) (log : List ℕ) → scriptRefusal script .number ≡ 0 → validDevice device ≡ false
-    → savedInterpret script device events budget log .answer .outcome ≡ 11
-unfolding savedInterpret heldInterpret interpretResult interpretRefusal
-interpret-refused script device events budget log z h = pick (holdsDevice device) refl
-  where
-    k : eqb (scriptRefusal script .number) 0 ≡ true
-    k = eq-eqb (scriptRefusal script .number) 0 z
+-- an accepted script has an image: the words that the compiler writes into a buffer that is long enough
+abbrev roomy : List ℕ
+roomy = replicate 12288 0
 
-    pick : (b : Bool) → holdsDevice device ≡ b → savedInterpret script device events budget log .answer .outcome ≡ 11
-    pick false e = rw (e, k)
-    pick true e =
-        let r : deviceInRange (deviceFrom device) ≡ false = rw e at h in
-        rw (e, k, r)
+module _ (script : List ℕ) (bytes : Bytes script) (z : scriptRefusal script .number ≡ 0) where
+  compiles : compileResult script roomy .refusal ≡ 0
+  compiles = accepts-all script roomy z (let w = accepts script z .few-words in omega (arith, w, length-replicate {A = ℕ} 12288 0))
+
+  good-words : badImage (wordsWritten script roomy) ≡ false
+  good-words =
+      let many = words-many script z in
+      ap badImage (written-are script roomy compiles) ∙ good-image (wordsOf script) (omega arith) (omega arith)
+
+  in-range-interprets :
+      (d : Device) (events : List ℕ) (budget : ℕ) (log : List ℕ) → deviceInRange d ≡ true
+      → Not11 (interpretResult script d events budget log .outcome)
+  in-range-interprets d events budget log p h =
+      let same = interpreter-correct .sameRun script roomy d events budget log bytes compiles .0 .sameOutcome in
+      in-range-runs (wordsWritten script roomy) d freshSequencer events budget log good-words p fresh-in-range (sym same ∙ h)
+
+  out-of-range-refused :
+      (d : Device) (events : List ℕ) (budget : ℕ) (log : List ℕ) → deviceInRange d ≡ false
+      → interpretResult script d events budget log .outcome ≡ 11
+  unfolding interpretResult interpretRefusal
+  out-of-range-refused d events budget log p = rw (eq-eqb (scriptRefusal script .number) 0 z, p)
+
+  pub interpret-refused :
+      (device events : List ℕ) (budget : ℕ) (log : List ℕ)
+      → (savedInterpret script device events budget log .answer .outcome ≡ 11) ↔ (validDevice device ≡ false)
+  unfolding savedInterpret heldInterpret
+  interpret-refused device events budget log = pick (holdsDevice device) (deviceInRange (deviceFrom device)) refl
+    where
+      unheld : unheldScriptRefusal script .number ≡ 11
+      unheld = rw (eq-eqb (scriptRefusal script .number) 0 z)
+
+      pick : (h p : Bool) → deviceInRange (deviceFrom device) ≡ p
+          → (cond h (heldInterpret script device events budget log) (afterInterpret (refusedAnswer (unheldScriptRefusal script)) device log) .answer
+          .outcome
+          ≡ 11)
+          ↔ ((h && p) ≡ false)
+      pick false p e = (λ y. refl, λ y. unheld)
+      pick true false e = (λ y. refl, λ y. out-of-range-refused (deviceFrom device) events budget log e)
+      pick true true e = (λ y. absurd (in-range-interprets (deviceFrom device) events budget log e y), λ y. absurd (false≢true (sym y)))
 
 -- ---- the fresh states
 pub fresh-device-valid : validDevice (stateBytes freshDevice) ≡ true
