@@ -177,7 +177,7 @@ fn sequencers_that_are_unread_or_out_of_range() {
     }
 }
 
-// Scripts that go on.
+// Scripts that are resumed.
 
 /// The example of docs/CASES.md. Its answers are on the page, with the states shortened to their
 /// first three bytes.
