@@ -48,3 +48,23 @@ badState = 11
 -- "bad event (the first's place; always 4,096 if over 4,096 events)"
 abbrev pub badEvent : ℕ
 badEvent = 12
+
+-- "30 line too long"
+abbrev pub lineTooLong : ℕ
+lineTooLong = 30
+
+-- "31 not in the grammar"
+abbrev pub notInGrammar : ℕ
+notInGrammar = 31
+
+-- "32 number too big for its field or against 4"
+abbrev pub numberTooBig : ℕ
+numberTooBig = 32
+
+-- "33 record buffer too short"
+abbrev pub recordsTooShort : ℕ
+recordsTooShort = 33
+
+-- "34 text buffer too short"
+abbrev pub textTooShort : ℕ
+textTooShort = 34

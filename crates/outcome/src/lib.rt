@@ -36,6 +36,18 @@ pub const BAD_STATE: u32 = 11;
 
 pub const BAD_EVENT: u32 = 12;
 
+// ---- Refusals by the assembler, which reads text scripts, and by the lister.
+
+pub const LINE_TOO_LONG: u32 = 30;
+
+pub const NOT_IN_GRAMMAR: u32 = 31;
+
+pub const NUMBER_TOO_BIG: u32 = 32;
+
+pub const RECORDS_TOO_SHORT: u32 = 33;
+
+pub const TEXT_TOO_SHORT: u32 = 34;
+
 // ---- Endings of a run.
 
 pub const HALTED: u32 = 0;

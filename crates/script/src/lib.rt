@@ -1,5 +1,5 @@
 // Checks a script: refusals 1 to 8, or the number of words that the compiler makes from it. The compiler calls `scan` first. The
-// checks of fields also serve words, in `step`. See docs/CHIP.md, "Scripts" and "Refusals".
+// checks of fields also serve words, in `step`, and text scripts, in `statement` and `lister`. See docs/CHIP.md, "Scripts" and "Refusals".
 use record::Record;
 ghost use mathlib.Core.Path.{_≡_};
 ghost use mathlib.Core.Bool.{cond};
@@ -122,7 +122,7 @@ pub fn kind_fields(r: Record, tests: u32) -> bool
 }
 
 // A record of a script uses no target.
-fn good_fields(r: Record) -> bool
+pub fn good_fields(r: Record) -> bool
     ensures { λ b. ⌜ b ≡ goodFields r ⌝ }
 {
     if r.target != 0 {
@@ -132,7 +132,7 @@ fn good_fields(r: Record) -> bool
 }
 
 // The fault that a record has by itself: 2, 3 or 4, or 0 if there is none.
-fn shape_fault(r: Record) -> u32
+pub fn shape_fault(r: Record) -> u32
     ensures { λ n. ⌜ n ≡ shapeFault r ⌝ }
 {
     if r.mark != Record::SCRIPT_MARK {
@@ -329,7 +329,7 @@ fn scan_records(script: &[u8], count: usize) -> ScanResult
 }
 
 // Refusal 1: the length is not a multiple of 12, or there are more than 1,024 records.
-fn bad_length(script: &[u8]) -> bool
+pub fn bad_length(script: &[u8]) -> bool
     ensures { λ r. ⌜ r ≡ badLength (now (script .entry)) ⌝ }
 {
     if script.len() % Record::SIZE != 0 {
