@@ -1,4 +1,6 @@
 // The lines that `replay` prints. Each line is put into a buffer and written at once. See docs/CASES.md, "Commands".
+use crate::scripts;
+use crate::scripts::Reply;
 use crate::session::Session;
 use device::Device;
 use device::Outputs;
@@ -103,7 +105,7 @@ fn put_state(line: &mut [u8], at: usize, device: Device) -> usize {
 // Room for the longest line of each kind: two digits for each byte of a saved state or an image, sixteen for each entry of a log.
 const STATE_LINE: usize = 256;
 
-const COMPILED_LINE: usize = 33000;
+const FILLED_LINE: usize = 33000;
 
 const RUN_LINE: usize = 34000;
 
@@ -129,31 +131,37 @@ fn put_refusal(line: &mut [u8], number: u32, place: u32) -> usize {
     digits::put_decimal(line, c, place)
 }
 
-fn put_count(line: &mut [u8], words: u32) -> usize {
-    let a = digits::put_text(line, 0, b"COMPILED ");
-    digits::put_decimal(line, a, words)
+fn put_name(line: &mut [u8], kind: u8) -> usize {
+    if kind == scripts::ASSEMBLE {
+        return digits::put_text(line, 0, b"ASSEMBLED ");
+    }
+    if kind == scripts::LIST {
+        return digits::put_text(line, 0, b"LISTED ");
+    }
+    digits::put_text(line, 0, b"COMPILED ")
 }
 
-fn put_buffer(line: &mut [u8], at: usize, image: &[u8], length: usize) -> usize {
+fn put_buffer(line: &mut [u8], at: usize, buffer: &[u8], length: usize) -> usize {
     if length == 0 {
         return at;
     }
     let next = digits::put(line, at, b' ');
-    put_bytes(line, next, image, length)
+    put_bytes(line, next, buffer, length)
 }
 
-fn put_compiled(line: &mut [u8], refusal: u32, place: u32, words: u32) -> usize {
-    if refusal == 0 {
-        return put_count(line, words);
+fn put_reply(line: &mut [u8], kind: u8, reply: Reply) -> usize {
+    if reply.refusal == 0 {
+        let a = put_name(line, kind);
+        return digits::put_decimal(line, a, reply.count);
     }
-    put_refusal(line, refusal, place)
+    put_refusal(line, reply.refusal, reply.place)
 }
 
-// The answer to a compilation, with the first `length` bytes of the image.
-pub fn compiled(refusal: u32, place: u32, words: u32, image: &[u8], length: usize) {
-    let mut line = [0u8; COMPILED_LINE];
-    let a = put_compiled(&mut line, refusal, place, words);
-    let b = put_buffer(&mut line, a, image, length);
+// The answer to a command that fills a buffer, with the first `length` bytes of the buffer.
+pub fn filled(kind: u8, reply: Reply, buffer: &[u8], length: usize) {
+    let mut line = [0u8; FILLED_LINE];
+    let a = put_reply(&mut line, kind, reply);
+    let b = put_buffer(&mut line, a, buffer, length);
     print(&mut line, b);
 }
 
@@ -166,7 +174,7 @@ fn put_next(line: &mut [u8], at: usize, number: u32) -> usize {
 }
 
 // The numbers of a run fit into 32 bits.
-fn short(number: usize) -> u32 {
+pub fn short(number: usize) -> u32 {
     (number % 0x1_0000_0000) as u32
 }
 

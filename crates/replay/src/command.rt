@@ -178,8 +178,16 @@ fn on_device(device: Device, line: &[u8], kind: u8) -> Device {
 
 pub fn run(session: Session, line: &[u8]) -> Session {
     let kind = letter(line);
-    if kind == b'C' {
-        scripts::run(line);
+    if kind == scripts::COMPILE {
+        scripts::run(kind, line);
+        return session;
+    }
+    if kind == scripts::ASSEMBLE {
+        scripts::run(kind, line);
+        return session;
+    }
+    if kind == scripts::LIST {
+        scripts::run(kind, line);
         return session;
     }
     if kind == b'Q' {

@@ -1,0 +1,79 @@
+-- What the assembler returns, and what it writes. See docs/TEXT.md, "Reading: refusals".
+use Prim.Native.Nat.{ℕ, suc, _*_, _/_}
+use mathlib.Core.Bool.{Bool, cond, not}
+use mathlib.Core.List.{List, [], _∷_, _++_}
+use lib.Dec.{eqb, ltb}
+use lib.ListN.{drop, length}
+use Rattle.outcome.specs.Number as number
+use Rattle.outcome.specs.Refusal.{refusal}
+use Rattle.outcome.specs.declared.Refusal.{Refusal}
+use Rattle.record.specs.Record.{bytesOf, recordSize}
+use Rattle.record.specs.declared.Record.{Record}
+use Rattle.statement.specs.Line.{lineFault, lineRecords}
+use Rattle.assembler.specs.declared.AssembleResult.{AssembleResult}
+
+-- ---- lines
+abbrev pub notLineFeed : ℕ → Bool
+notLineFeed b = not (eqb b 0x0A)
+
+-- puts a byte in front of the first line
+abbrev pub inFirst : ℕ → List (List ℕ) → List (List ℕ)
+inFirst b [] = (b ∷ []) ∷ []
+inFirst b (l ∷ ls) = (b ∷ l) ∷ ls
+
+-- "Lines end at a line feed or the text's end"
+abbrev pub linesOf : List ℕ → List (List ℕ)
+linesOf [] = []
+linesOf (b ∷ bs) = cond (notLineFeed b) (inFirst b (linesOf bs)) ([] ∷ linesOf bs)
+
+-- "the first bad line, from 0, is the place, least number first"
+abbrev pub firstBadLine : (place : ℕ) → List (List ℕ) → Refusal
+firstBadLine place [] = refusal 0 0
+firstBadLine place (l ∷ ls) =
+    cond (eqb (lineFault l) 0) (firstBadLine (suc place) ls) (refusal (lineFault l) place)
+
+abbrev pub recordsIn : List (List ℕ) → List Record
+recordsIn [] = []
+recordsIn (l ∷ ls) = lineRecords l ++ recordsIn ls
+
+-- ---- texts
+
+unfoldable pub badLine : List ℕ → Refusal
+badLine text = firstBadLine 0 (linesOf text)
+
+unfoldable pub textRecords : List ℕ → List Record
+textRecords text = recordsIn (linesOf text)
+
+-- the bytes of records
+abbrev pub recordBytes : List Record → List ℕ
+recordBytes [] = []
+recordBytes (r ∷ rs) = bytesOf r ++ recordBytes rs
+
+-- "33 record buffer too short": it has room for fewer records
+abbrev pub noRoom : (text buffer : List ℕ) → Bool
+noRoom text buffer = ltb (length buffer / recordSize) (length (textRecords text))
+
+-- "33 only when no line is bad; 33 and 34 have place 0"
+unfoldable pub textRefusal : (text buffer : List ℕ) → Refusal
+textRefusal text buffer =
+    cond (eqb (badLine text .number) 0) (cond (noRoom text buffer) (refusal number.recordsTooShort 0) (refusal 0 0))
+    (badLine text)
+
+-- the answer: a refusal, or the number of records
+abbrev pub answer : Refusal → ℕ → AssembleResult
+answer f n = record { refusal = f .number; place = f .place; records = cond (eqb (f .number) 0) n 0 }
+
+-- refusals 30, 31 and 32, or the number of records
+unfoldable pub checkResult : List ℕ → AssembleResult
+checkResult text = answer (badLine text) (length (textRecords text))
+
+unfoldable pub assembleResult : (text buffer : List ℕ) → AssembleResult
+assembleResult text buffer = answer (textRefusal text buffer) (length (textRecords text))
+
+-- records in the front of a buffer
+unfoldable pub withRecords : List Record → List ℕ → List ℕ
+withRecords rs buffer = recordBytes rs ++ drop (recordSize * length rs) buffer
+
+-- "a refusal writes to no lent buffer, and success leaves the rest as lent"
+unfoldable pub recordsAfter : (text buffer : List ℕ) → List ℕ
+recordsAfter text buffer = cond (eqb (textRefusal text buffer .number) 0) (withRecords (textRecords text) buffer) buffer
