@@ -16,6 +16,7 @@ ghost use Rattle.statement.specs.Line.{
   kindOf,
   lastByte,
   lineResult,
+  noRecord,
   notBlank,
   notSemicolon,
   numberIn,
@@ -264,7 +265,9 @@ fn read_operand(s: &[u8], at: usize, wanted: bool) -> Operand
     }
 }
 
-fn no_record() -> Record {
+fn no_record() -> Record
+    ensures { λ r. ⌜ r ≡ noRecord ⌝ }
+{
     Record {
         mark: 0,
         kind: 0,
