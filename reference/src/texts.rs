@@ -26,6 +26,9 @@ pub const TEXTS: Source = Source {
     looks: false,
 };
 
+/// About the length of a listed line.
+const USUAL_LINE: usize = 16;
+
 const KINDS: [u8; 7] = [WRITE, READ, DELAY, REPEAT, IF, ELSE, END];
 
 const PORTS: [u16; 10] = [
@@ -953,9 +956,6 @@ impl Texts<'_> {
         length.min(COMPILE_LIMIT)
     }
 }
-
-/// About the length of a listed line.
-const USUAL_LINE: usize = 16;
 
 fn keyword(kind: u8) -> String {
     String::from_utf8_lossy(text::keyword(kind)).into_owned()
