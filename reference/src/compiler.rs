@@ -88,7 +88,7 @@ impl Record {
 
     /// The first fault of a script record that can be found without the records around it: refusals
     /// 2 to 4.
-    fn check(&self) -> Result<(), Fault> {
+    pub fn check(&self) -> Result<(), Fault> {
         if self.mark != SCRIPT_MARK {
             return Err(Fault::Mark);
         }

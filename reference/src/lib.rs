@@ -21,6 +21,9 @@ pub mod sequencer;
 pub mod shapes;
 pub mod state;
 pub mod stream;
+pub mod text;
+pub mod text_programs;
+pub mod texts;
 
 #[cfg(test)]
 mod compiler_tests;
@@ -34,3 +37,5 @@ mod resumed_tests;
 mod run_tests;
 #[cfg(test)]
 mod tests;
+#[cfg(test)]
+mod text_tests;

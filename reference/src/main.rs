@@ -3,7 +3,7 @@
 
 #![forbid(unsafe_code)]
 
-use std::io::{self, BufReader, BufWriter, Write};
+use std::io::{self, BufReader, BufWriter, Read, Write};
 use std::process::ExitCode;
 
 use reference::generate::{self, Source, ANYTHING};
@@ -11,6 +11,8 @@ use reference::images::IMAGES;
 use reference::nested::{self, NESTED};
 use reference::resumed::RESUMED;
 use reference::runs::RUNS;
+use reference::text_programs::{self, Written};
+use reference::texts::{self, TEXTS};
 use reference::{scripts, stream};
 
 const USAGE: &str = "\
@@ -21,7 +23,12 @@ usage: reference answer                read commands on standard input, print th
        reference images SEED COUNT     print COUNT random commands, mostly runs of images
        reference nested SEED COUNT     print COUNT random commands, mostly interpreted scripts
        reference resumed SEED COUNT    print COUNT random commands, mostly runs in parts
+       reference texts SEED COUNT      print COUNT random commands, mostly texts read and scripts listed
        reference script SEED           write one random script as bytes
+       reference text SEED             write one random text
+       reference records SEED          write one random script for listing, as bytes
+       reference assemble              do what the program `assemble` does
+       reference list                  do what the program `list` does
 ";
 
 const BUFFER_BYTES: usize = 1 << 16;
@@ -38,19 +45,30 @@ enum Task {
         seed: u64,
         count: u64,
     },
-    /// Writes the bytes of one script.
-    Script {
+    /// Writes the bytes of one script or text.
+    Single {
+        maker: fn(u64) -> Vec<u8>,
         seed: u64,
     },
+    /// Does what another program does.
+    Program(fn(&[u8]) -> Written),
 }
 
 fn task(arguments: &[String]) -> Option<Task> {
     let (name, numbers) = arguments.split_first()?;
     let (seed, count) = match (name.as_str(), numbers) {
         ("answer", []) => return Some(Task::Answer),
-        ("script", [seed]) => {
+        ("assemble", []) => return Some(Task::Program(text_programs::assemble)),
+        ("list", []) => return Some(Task::Program(text_programs::list)),
+        (_, [seed]) => {
             let seed = seed.parse().ok()?;
-            return Some(Task::Script { seed });
+            let maker = match name.as_str() {
+                "script" => nested::single_script,
+                "text" => texts::single_text,
+                "records" => texts::single_script,
+                _ => return None,
+            };
+            return Some(Task::Single { maker, seed });
         }
         (_, [seed, count]) => (seed.parse().ok()?, count.parse().ok()?),
         _ => return None,
@@ -61,6 +79,7 @@ fn task(arguments: &[String]) -> Option<Task> {
         "images" => &IMAGES,
         "nested" => &NESTED,
         "resumed" => &RESUMED,
+        "texts" => &TEXTS,
         "scripts" => return Some(Task::Scripts { seed, count }),
         _ => return None,
     };
@@ -71,7 +90,8 @@ fn task(arguments: &[String]) -> Option<Task> {
     })
 }
 
-fn run(task: Task) -> io::Result<()> {
+fn run(task: Task) -> io::Result<ExitCode> {
+    let mut code = ExitCode::SUCCESS;
     let mut output = BufWriter::with_capacity(BUFFER_BYTES, io::stdout().lock());
     match task {
         Task::Answer => {
@@ -84,9 +104,20 @@ fn run(task: Task) -> io::Result<()> {
             count,
         } => generate::write_commands(source, seed, count, &mut output)?,
         Task::Scripts { seed, count } => scripts::write_scripts(seed, count, &mut output)?,
-        Task::Script { seed } => output.write_all(&nested::single_script(seed))?,
+        Task::Single { maker, seed } => output.write_all(&maker(seed))?,
+        Task::Program(program) => {
+            let mut input = Vec::new();
+            io::stdin().lock().read_to_end(&mut input)?;
+            let written = program(&input);
+            output.write_all(&written.output)?;
+            io::stderr().write_all(&written.errors)?;
+            if written.refused {
+                code = ExitCode::FAILURE;
+            }
+        }
     }
-    output.flush()
+    output.flush()?;
+    Ok(code)
 }
 
 fn main() -> ExitCode {
@@ -100,7 +131,7 @@ fn main() -> ExitCode {
         return ExitCode::from(2);
     };
     match run(task) {
-        Ok(()) => ExitCode::SUCCESS,
+        Ok(code) => code,
         Err(error) => {
             let _ = writeln!(io::stderr(), "reference: {error}");
             ExitCode::FAILURE

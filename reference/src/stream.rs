@@ -5,17 +5,19 @@ use std::hash::{DefaultHasher, Hash, Hasher};
 use std::io::{self, BufRead, Write};
 
 use crate::blocks;
-use crate::compiler::{self, RECORD_BYTES, WORD_LIMIT};
+use crate::compiler::{self, RECORD_BYTES, RECORD_LIMIT, WORD_LIMIT};
 use crate::device::{Access, Answer, Device, Outputs, Refusal};
 use crate::own_run::{self, own_run, OwnRun};
+use crate::scripts;
 use crate::sequencer::{self, Ended, Ending, Lent, Observer, Sequencer, COUNTER_LIMIT};
 use crate::state::{self, SequencerBytes, StateBytes};
+use crate::text;
 
 /// A line may have at most this many bytes before its line feed.
 pub const LINE_LIMIT: usize = 65_536;
 
-/// The image buffer and the script of a compile command have at most this many bytes each, and so
-/// have the image and the script of a run.
+/// The buffer of a command that compiles, reads a text or lists has at most this many bytes, and so
+/// has its script or text. The image and the script of a run have the same limit.
 pub const COMPILE_LIMIT: usize = 16_384;
 
 /// The log of a run has at most this many entries.
@@ -35,7 +37,7 @@ pub const OWN_RUN_STEPS: u64 = 1 << 18;
 /// have more accesses than fit into the memory.
 const ACCESSES_KEPT: usize = 1 << 18;
 
-/// Before the compiler is called, byte k of the buffer is k modulo this.
+/// Before the call, byte k of the buffer of such a command is k modulo this.
 const BUFFER_CYCLE: usize = 251;
 
 /// The longest number, in digits.
@@ -56,6 +58,8 @@ enum Command {
     Load(Box<StateBytes>),
     Fresh,
     Compile { length: usize, script: Vec<u8> },
+    Assemble { length: usize, text: Vec<u8> },
+    List { length: usize, script: Vec<u8> },
     SetSequencer(Sequencer),
     Sequencer,
     LoadSequencer(Box<SequencerBytes>),
@@ -97,13 +101,17 @@ impl Command {
             [b"S"] => Some(Command::State),
             [b"L", digits] => Some(Command::Load(Box::new(state_bytes(digits)?))),
             [b"F"] => Some(Command::Fresh),
-            [b"C", length] => Some(Command::Compile {
+            [b"C", length, script @ ..] => Some(Command::Compile {
                 length: buffer_length(length)?,
-                script: Vec::new(),
+                script: last_bytes(script)?,
             }),
-            [b"C", length, script] => Some(Command::Compile {
+            [b"A", length, text @ ..] => Some(Command::Assemble {
                 length: buffer_length(length)?,
-                script: script_bytes(script)?,
+                text: last_bytes(text)?,
+            }),
+            [b"D", length, script @ ..] => Some(Command::List {
+                length: buffer_length(length)?,
+                script: last_bytes(script)?,
             }),
             [b"Q"] => Some(Command::SetSequencer(Sequencer::fresh())),
             [b"Q", place, used, counters @ ..] => Some(Command::SetSequencer(Sequencer {
@@ -182,13 +190,17 @@ fn buffer_length(word: &[u8]) -> Option<usize> {
     (length <= COMPILE_LIMIT).then_some(length)
 }
 
-/// An empty script is left out, so an empty word here means a space after the last word, which is
-/// wrong.
-fn script_bytes(word: &[u8]) -> Option<Vec<u8>> {
-    let script = byte_string(word)?;
-    (1..=COMPILE_LIMIT)
-        .contains(&script.len())
-        .then_some(script)
+/// The script or text at the end of a command. An empty one is left out, so an empty word here means
+/// a space after the last word, which is wrong.
+fn last_bytes(words: &[&[u8]]) -> Option<Vec<u8>> {
+    match words {
+        [] => Some(Vec::new()),
+        [word] => {
+            let bytes = byte_string(word)?;
+            (1..=COMPILE_LIMIT).contains(&bytes.len()).then_some(bytes)
+        }
+        _ => None,
+    }
 }
 
 /// A byte string, or `-` for an empty one.
@@ -234,6 +246,10 @@ pub enum Reply {
     Fresh,
     /// The result of the compiler, and the whole buffer after it.
     Compiled(Result<usize, compiler::Refusal>, Vec<u8>),
+    /// The result of reading a text, and the whole record buffer after it.
+    Assembled(Result<usize, text::Refusal>, Vec<u8>),
+    /// The result of listing a script, and the whole text buffer after it.
+    Listed(Result<usize, text::Refusal>, Vec<u8>),
     /// The sequencer was set.
     Set,
     Sequencer(Box<SequencerBytes>),
@@ -371,10 +387,15 @@ impl fmt::Display for Reply {
                         write!(line, "REFUSED {} {place}", fault.number())?;
                     }
                 }
-                if !image.is_empty() {
-                    line.write_str(" ")?;
-                }
-                write_bytes(line, image)
+                write_buffer(line, image)
+            }
+            Reply::Assembled(outcome, records) => {
+                write_text_outcome(line, "ASSEMBLED", outcome)?;
+                write_buffer(line, records)
+            }
+            Reply::Listed(outcome, text) => {
+                write_text_outcome(line, "LISTED", outcome)?;
+                write_buffer(line, text)
             }
             Reply::Set => line.write_str("SET"),
             Reply::Sequencer(bytes) => {
@@ -386,6 +407,25 @@ impl fmt::Display for Reply {
             Reply::Unread => line.write_str("UNREAD"),
         }
     }
+}
+
+fn write_text_outcome(
+    line: &mut fmt::Formatter<'_>,
+    done: &str,
+    outcome: &Result<usize, text::Refusal>,
+) -> fmt::Result {
+    match outcome {
+        Ok(count) => write!(line, "{done} {count}"),
+        Err(text::Refusal { fault, place }) => write!(line, "REFUSED {} {place}", fault.number()),
+    }
+}
+
+/// For a buffer of 0 bytes the space before it is left out too.
+fn write_buffer(line: &mut fmt::Formatter<'_>, buffer: &[u8]) -> fmt::Result {
+    if !buffer.is_empty() {
+        line.write_str(" ")?;
+    }
+    write_bytes(line, buffer)
 }
 
 fn write_bytes(line: &mut fmt::Formatter<'_>, bytes: &[u8]) -> fmt::Result {
@@ -456,9 +496,21 @@ impl Session {
                 Ok(Reply::Fresh)
             }
             Command::Compile { length, script } => {
-                let mut image: Vec<u8> = (0..length).map(|k| (k % BUFFER_CYCLE) as u8).collect();
+                let mut image = lent_buffer(length);
                 let outcome = compiler::compile(&script, &mut image);
                 Ok(Reply::Compiled(outcome, image))
+            }
+            Command::Assemble { length, text } => {
+                check_reading(&text);
+                let mut records = lent_buffer(length);
+                let outcome = text::read(&text, &mut records);
+                Ok(Reply::Assembled(outcome, records))
+            }
+            Command::List { length, script } => {
+                check_listing(&script);
+                let mut text = lent_buffer(length);
+                let outcome = text::list(&script, &mut text);
+                Ok(Reply::Listed(outcome, text))
             }
             Command::SetSequencer(sequencer) => {
                 self.sequencer = sequencer;
@@ -535,6 +587,45 @@ impl Session {
         }
         (by_records, sequencer)
     }
+}
+
+fn lent_buffer(length: usize) -> Vec<u8> {
+    (0..length).map(|k| (k % BUFFER_CYCLE) as u8).collect()
+}
+
+/// The records of a text have a listing, unless there are too many of them, and reading the listing
+/// returns the same records. Panics otherwise.
+fn check_reading(text: &[u8]) {
+    let Ok(records) = text::records(text) else {
+        return;
+    };
+    let script = scripts::encode(&records);
+    let listed = check_listing(&script);
+    assert_eq!(
+        listed,
+        records.len() <= RECORD_LIMIT,
+        "the records of a text have a listing"
+    );
+}
+
+/// Reading the listing of a script, if there is one, returns the same bytes, and no line of it is too
+/// long. Panics otherwise. Returns whether there is a listing.
+fn check_listing(script: &[u8]) -> bool {
+    let Ok(listing) = text::listing(script) else {
+        return false;
+    };
+    assert!(
+        text::lines(&listing).all(|line| line.len() <= text::LINE_BYTES),
+        "no line of a listing is too long"
+    );
+    let mut records = vec![0; script.len()];
+    assert_eq!(
+        text::read(&listing, &mut records),
+        Ok(script.len() / RECORD_BYTES),
+        "a listing can be read"
+    );
+    assert_eq!(records, script, "reading a listing returns the same bytes");
+    true
 }
 
 /// The accesses of a run.

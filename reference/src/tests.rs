@@ -740,6 +740,8 @@ fn only_done_accesses_change_the_state() {
             | Reply::Outputs(_)
             | Reply::State(_)
             | Reply::Compiled(..)
+            | Reply::Assembled(..)
+            | Reply::Listed(..)
             | Reply::Set
             | Reply::Sequencer(_) => {
                 assert_eq!(session.device(), &settled);
