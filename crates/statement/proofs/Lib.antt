@@ -1,0 +1,6 @@
+pub mod Complete
+pub mod Contents
+pub mod Numbers
+pub mod OneReading
+pub mod Statements
+pub mod Words
