@@ -3,7 +3,7 @@
 use Prim.Native.Nat.{ℕ}
 use mathlib.Core.Path.{_≡_, ap, _∙_}
 use mathlib.Core.Bool.{true}
-use mathlib.Core.List.{List, [], _∷_, _++_, append-assoc}
+use mathlib.Core.List.{List, _++_, append-assoc}
 use Rattle.record.specs.declared.Record.{Record}
 use Rattle.statement.specs.Grammar.{Line}
 use Rattle.statement.specs.Line.{content, isLine, lineRecords}

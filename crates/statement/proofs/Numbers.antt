@@ -2,7 +2,7 @@
 -- builds them up. `h` and `H` are not digits, so a number is either decimal or hex.
 use Prim.Native.Nat.{ℕ, suc, _+_, _-_, _*_, _≤_, _<_}
 use mathlib.Core.Path.{_≡_, refl, sym, ap, subst, _∙_}
-use mathlib.Core.Bool.{Bool, true, false, cond, false≢true, _&&_, _||_}
+use mathlib.Core.Bool.{Bool, true, false, _||_}
 use mathlib.Core.List.{List, [], _∷_, _++_, append-assoc, append-nil}
 use borrow.Author.Tests.{eqb-true, lt-ltb, ltb-true, ne-eqb}
 use lib.Dec.{eqb, ltb}
@@ -14,10 +14,11 @@ use Rattle.digits.specs.Read.{digitOf, noDigit}
 use Rattle.digits.proofs.Read.{after-lower, before-decimal, before-lower, before-upper, decimal-digit, lower-digit, upper-digit}
 use Rattle.lists.specs.All.{All}
 use Rattle.statement.specs.Grammar.{Decimal, Digit, Hex, HexDigit, Number}
-use Rattle.statement.specs.Line.{allDigits, baseOf, digitCount, digitsIn, isBlank, isEmpty, isHex, isNumber, lastByte, valueAfter, valueOf}
+use Rattle.statement.specs.Line.{allDigits, isEmpty, isHex, isNumber, lastByte, valueAfter, valueOf}
 use Rattle.statement.proofs.Words.{InWord, Word, all-append, both}
 
 -- ---- one digit
+-- the byte c is a digit of the base, with the value n
 record Reads (base c n : ℕ) : Type 0 where
   value : digitOf c ≡ n
   below : n < base
@@ -90,6 +91,7 @@ value-append high base (c ∷ cs) ds = value-append (high * base + digitOf c) ba
 pub last-append : (cs : List ℕ) (c : ℕ) → lastByte (cs ++ (c ∷ [])) ≡ c
 last-append cs c = getD-at cs c [] 0 (length (cs ++ (c ∷ [])) - 1) (simp length-append (omega arith))
 
+-- the bytes are one or more digits of the base, with the value n
 record Digits (base : ℕ) (cs : List ℕ) (n : ℕ) : Type 0 where
   each : allDigits base cs ≡ true
   value : valueAfter 0 base cs ≡ n
@@ -143,15 +145,18 @@ pub record Read (w : List ℕ) (n : ℕ) : Type 0 where
 decimal-read : {w : List ℕ} {n : ℕ} → Digits 10 w n → Read w n
 unfolding isNumber valueOf digitOf
 decimal-read {w} {n} d =
-    let last = lastByte w in
-    let h : isHex w ≡ false = rw (not-digit last 0x68 (let l = d .last in omega arith) refl, not-digit last 0x48 (let l = d .last in omega arith) refl) in
+    let l : digitOf (lastByte w) < 16 = omega arith in
+    let h : isHex w ≡ false = rw (not-digit (lastByte w) 0x68 l refl, not-digit (lastByte w) 0x48 l refl) in
     record {
       is-number = rw (h, take-length w, lt-ltb 0 (length w) (d .some), d .each);
       value = rw (h, take-length w) (d .value);
       is-word = record { some = not-empty w (d .some); each = digits-in-word 10 w (omega arith) (d .each) };
     }
 
-hex-read : (h : ℕ) → (eqb h 0x68 || eqb h 0x48) ≡ true → InWord h → {cs : List ℕ} {n : ℕ} → Digits 16 cs n → Read (cs ++ (h ∷ [])) n
+-- the byte after the digits is `h` or `H`
+hex-read :
+    (h : ℕ) → (eqb h 0x68 || eqb h 0x48) ≡ true → InWord h → {cs : List ℕ} {n : ℕ} → Digits 16 cs n
+    → Read (cs ++ (h ∷ [])) n
 unfolding isNumber valueOf
 hex-read h e i {cs} {n} d =
     let w = cs ++ (h ∷ []) in
@@ -173,7 +178,7 @@ number-read (Number.hex d) = hex-read 0x68 refl (refl, (refl, refl)) (hex-digits
 number-read (Number.upperHex d) = hex-read 0x48 refl (refl, (refl, refl)) (hex-digits d)
 
 -- ---- a word that is read is a number of the grammar
--- `Decimal` and `Hex` are built up in the same way
+-- R is `Decimal` or `Hex`, which are built up in the same way
 module _
     (base : ℕ) (R : List ℕ → ℕ → Type 0) (first : (c : ℕ) → digitOf c < base → R (c ∷ []) (digitOf c))
     (next : (cs : List ℕ) (c m : ℕ) → R cs m → digitOf c < base → R (cs ++ (c ∷ [])) (m * base + digitOf c)) where

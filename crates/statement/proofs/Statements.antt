@@ -2,18 +2,19 @@
 -- the keyword and the values of the numbers, and a text that is read in this way is a statement of the grammar.
 use Prim.Native.Nat.{ℕ, zero, suc}
 use mathlib.Core.Path.{_≡_, refl, subst}
-use mathlib.Core.Bool.{Bool, true, false, cond, false≢true, true≢false, _&&_}
+use mathlib.Core.Bool.{Bool, true, false, cond, not, false≢true, true≢false}
 use mathlib.Core.List.{List, [], _∷_, _++_, append-assoc}
-use borrow.Author.Tests.{eqb-true}
+use borrow.Author.Tests.{eqb-true, not-true}
 use lib.Dec.{eqb}
 use lib.ListN.{length}
 use Rattle.lists.specs.All.{All}
 use Rattle.record.specs.declared.Record.{Record}
+use Rattle.script.specs.Nested.{scriptRecord}
 use Rattle.statement.specs.Grammar.{Blanks, Gap, Number, Statement, delayWord, elseWord, endWord, ifWord, readWord, repeatWord, writeWord}
-use Rattle.statement.specs.Line.{afterWord, areOperands, isEmpty, isNumber, isStatement, kindOf, notBlank, operandCount, operands, recordWith, sameWord, statementRecord, valueOf, word}
+use Rattle.statement.specs.Line.{afterWord, areOperands, isEmpty, isNumber, isStatement, kindOf, notBlank, operandCount, operands, recordWith, sameWord, statementRecord, word}
 use Rattle.statement.proofs.Contents.{Plain}
 use Rattle.statement.proofs.Numbers.{number-of, number-read}
-use Rattle.statement.proofs.Words.{Stops, Word, after-is, all-append, blanks-alone, blanks-plain, blanks-stop, both, gap-blanks, gap-of, gap-stops, indent, no-word, split, word-is, word-plain, word-stops}
+use Rattle.statement.proofs.Words.{Stops, Word, after-is, all-append, blanks-alone, blanks-plain, blanks-stop, both, gap-blanks, gap-of, gap-stops, no-word, split, word-is, word-plain, word-stops}
 
 -- ---- the numbers of a statement, with their values
 -- each number stands after a gap, and blanks may follow the last
@@ -21,28 +22,26 @@ pub data Operands : (text values : List ℕ) → Type 0 where
   none : {b : List ℕ} → Blanks b → Operands b []
   more : {g w s ns : List ℕ} {n : ℕ} → Gap g → Number w n → Operands s ns → Operands (g ++ (w ++ s)) (n ∷ ns)
 
-operands-stop : {s ns : List ℕ} → Operands s ns → Stops notBlank s
-operands-stop (Operands.none b) = blanks-stop b
-operands-stop (Operands.more {w} {s} g n o) = gap-stops (w ++ s) g
+-- they are read, with these values, and no byte of them ends the content of a line
+record Taken (s ns : List ℕ) : Type 0 where
+  stop : Stops notBlank s
+  plain : All Plain s
+  are : areOperands (length ns) s ≡ true
+  values : operands (length ns) s ≡ ns
 
-operands-plain : {s ns : List ℕ} → Operands s ns → All Plain s
-operands-plain (Operands.none b) = blanks-plain b
-operands-plain (Operands.more {g = a} {w} {s} g n o) =
-    all-append Plain a (w ++ s) (blanks-plain (gap-blanks g)) (all-append Plain w s (word-plain w (number-read n .is-word)) (operands-plain o))
-
-are-operands : {s ns : List ℕ} → Operands s ns → areOperands (length ns) s ≡ true
-are-operands (Operands.none b) = rw (no-word b)
-are-operands (Operands.more {s} g n o) =
+taken : {s ns : List ℕ} → Operands s ns → Taken s ns
+taken (Operands.none b) = record { stop = blanks-stop b; plain = blanks-plain b; are = rw (no-word b); values = refl }
+taken (Operands.more {g = a} {w} {s} g n o) =
+    let i = taken o in
     let r = number-read n in
-    let stop = operands-stop o in
-    rw (word-is s (gap-blanks g) (r .is-word) stop, after-is s (gap-blanks g) (r .is-word) stop, r .is-number) (are-operands o)
-
-operand-values : {s ns : List ℕ} → Operands s ns → operands (length ns) s ≡ ns
-operand-values (Operands.none b) = refl
-operand-values (Operands.more {s} g n o) =
-    let r = number-read n in
-    let stop = operands-stop o in
-    rw (word-is s (gap-blanks g) (r .is-word) stop, after-is s (gap-blanks g) (r .is-word) stop, r .value, operand-values o)
+    let at = word-is s (gap-blanks g) (r .is-word) (i .stop) in
+    let after = after-is s (gap-blanks g) (r .is-word) (i .stop) in
+    record {
+      stop = gap-stops (w ++ s) g;
+      plain = all-append Plain a (w ++ s) (blanks-plain (gap-blanks g)) (all-append Plain w s (word-plain w (r .is-word)) (i .plain));
+      are = rw (at, after, r .is-number) (i .are);
+      values = rw (at, after, r .value, i .values);
+    }
 
 pub operands-of : (n : ℕ) (s : List ℕ) → Stops notBlank s → areOperands n s ≡ true → Operands s (operands n s)
 operands-of zero s e h = Operands.none (blanks-alone s h)
@@ -63,33 +62,22 @@ pub data Keyword : (word : List ℕ) (kind : ℕ) → Type 0 where
   else : Keyword elseWord 6
   end : Keyword endWord 7
 
-keyword-word : {w : List ℕ} {k : ℕ} → Keyword w k → Word w
-keyword-word Keyword.write = record { some = refl; each = search }
-keyword-word Keyword.read = record { some = refl; each = search }
-keyword-word Keyword.delay = record { some = refl; each = search }
-keyword-word Keyword.repeat = record { some = refl; each = search }
-keyword-word Keyword.if = record { some = refl; each = search }
-keyword-word Keyword.else = record { some = refl; each = search }
-keyword-word Keyword.end = record { some = refl; each = search }
+-- a keyword is a word, and `kindOf` returns its kind, which is not 0
+record Key (w : List ℕ) (k : ℕ) : Type 0 where
+  is-word : Word w
+  kind : kindOf w ≡ k
+  known : eqb k 0 ≡ false
 
-keyword-kind : {w : List ℕ} {k : ℕ} → Keyword w k → kindOf w ≡ k
+-- each field holds by computation
+key : {w : List ℕ} {k : ℕ} → Keyword w k → Key w k
 unfolding kindOf
-keyword-kind Keyword.write = refl
-keyword-kind Keyword.read = refl
-keyword-kind Keyword.delay = refl
-keyword-kind Keyword.repeat = refl
-keyword-kind Keyword.if = refl
-keyword-kind Keyword.else = refl
-keyword-kind Keyword.end = refl
-
-keyword-known : {w : List ℕ} {k : ℕ} → Keyword w k → eqb k 0 ≡ false
-keyword-known Keyword.write = refl
-keyword-known Keyword.read = refl
-keyword-known Keyword.delay = refl
-keyword-known Keyword.repeat = refl
-keyword-known Keyword.if = refl
-keyword-known Keyword.else = refl
-keyword-known Keyword.end = refl
+key Keyword.write = search
+key Keyword.read = search
+key Keyword.delay = search
+key Keyword.repeat = search
+key Keyword.if = search
+key Keyword.else = search
+key Keyword.end = search
 
 -- a word that has a kind is its keyword
 pub same-word : (a b : List ℕ) → sameWord a b ≡ true → a ≡ b
@@ -102,7 +90,7 @@ same-word (x ∷ a) (y ∷ b) h =
 
 module _ (w : List ℕ) where
   choice : (keyword : List ℕ) (k other : ℕ) → Keyword keyword k → (eqb other 0 ≡ false → Keyword w other)
-      → (h : eqb (cond (sameWord w keyword) k other) 0 ≡ false) → Keyword w (cond (sameWord w keyword) k other)
+      → eqb (cond (sameWord w keyword) k other) 0 ≡ false → Keyword w (cond (sameWord w keyword) k other)
   choice keyword k other here there = pick (sameWord w keyword) refl
     where
       pick : (p : Bool) → sameWord w keyword ≡ p → eqb (cond p k other) 0 ≡ false → Keyword w (cond p k other)
@@ -126,19 +114,21 @@ pub record Reading (s : List ℕ) (r : Record) : Type 0 where
   pub means : statementRecord s ≡ r
   pub plain : All Plain s
 
-module _ {a w t ns : List ℕ} {k : ℕ} (blanks : Blanks a) (key : Keyword w k) (o : Operands t ns) (count : operandCount k ≡ length ns) where
-  reading : Reading (a ++ (w ++ t)) (recordWith k ns)
-  unfolding isStatement statementRecord
-  reading =
-      let kw = keyword-word key in
-      let at = word-is t blanks kw (operands-stop o) in
-      let after = after-is t blanks kw (operands-stop o) in
-      record {
-        some = rw at (kw .some);
-        is-statement = rw (at, after, keyword-kind key, keyword-known key, count) (are-operands o);
-        means = rw (at, after, keyword-kind key, count, operand-values o);
-        plain = all-append Plain a (w ++ t) (blanks-plain blanks) (all-append Plain w t (word-plain w kw) (operands-plain o));
-      }
+-- blanks, a keyword and its numbers
+reading : {a w t ns : List ℕ} {k : ℕ} → Blanks a → Keyword w k → Operands t ns → operandCount k ≡ length ns
+    → Reading (a ++ (w ++ t)) (recordWith k ns)
+unfolding isStatement statementRecord
+reading {a} {w} {t} blanks keyword o count =
+    let k = key keyword in
+    let i = taken o in
+    let at = word-is t blanks (k .is-word) (i .stop) in
+    let after = after-is t blanks (k .is-word) (i .stop) in
+    record {
+      some = rw at (k .is-word .some);
+      is-statement = rw (at, after, k .kind, k .known, count) (i .are);
+      means = rw (at, after, k .kind, count, i .values);
+      plain = all-append Plain a (w ++ t) (blanks-plain blanks) (all-append Plain w t (word-plain w (k .is-word)) (i .plain));
+    }
 
 pub statement-read : {a s b : List ℕ} {r : Record} → Blanks a → Statement s r → Blanks b → Reading (a ++ (s ++ b)) r
 unfolding operandCount
@@ -152,3 +142,50 @@ statement-read x (Statement.if a w b p c v) y =
     simp append-assoc (reading x Keyword.if (Operands.more a w (Operands.more b p (Operands.more c v (Operands.none y)))) refl)
 statement-read x Statement.else y = reading x Keyword.else (Operands.none y) refl
 statement-read x Statement.end y = reading x Keyword.end (Operands.none y) refl
+
+-- ---- a text that is read is a statement of the grammar, perhaps with blanks after it
+pub data Said : List ℕ → Record → Type 0 where
+  said : {s b : List ℕ} {r : Record} → Statement s r → Blanks b → Said (s ++ b) r
+
+write-said : {t : List ℕ} {x y z : ℕ} → Operands t (x ∷ y ∷ z ∷ []) → Said (writeWord ++ t) (scriptRecord 1 x y z)
+write-said (Operands.more a w (Operands.more b p (Operands.more c v (Operands.none e)))) =
+    simp append-assoc at (Said.said (Statement.write a w b p c v) e)
+
+read-said : {t : List ℕ} {x y : ℕ} → Operands t (x ∷ y ∷ []) → Said (readWord ++ t) (scriptRecord 2 x y 0)
+read-said (Operands.more a w (Operands.more b p (Operands.none e))) =
+    simp append-assoc at (Said.said (Statement.read a w b p) e)
+
+delay-said : {t : List ℕ} {x : ℕ} → Operands t (x ∷ []) → Said (delayWord ++ t) (scriptRecord 3 0 0 x)
+delay-said (Operands.more a n (Operands.none e)) = simp append-assoc at (Said.said (Statement.delay a n) e)
+
+repeat-said : {t : List ℕ} {x : ℕ} → Operands t (x ∷ []) → Said (repeatWord ++ t) (scriptRecord 4 0 0 x)
+repeat-said (Operands.more a n (Operands.none e)) = simp append-assoc at (Said.said (Statement.repeat a n) e)
+
+if-said : {t : List ℕ} {x y z : ℕ} → Operands t (x ∷ y ∷ z ∷ []) → Said (ifWord ++ t) (scriptRecord 5 x y z)
+if-said (Operands.more a w (Operands.more b p (Operands.more c v (Operands.none e)))) =
+    simp append-assoc at (Said.said (Statement.if a w b p c v) e)
+
+else-said : {t : List ℕ} → Operands t [] → Said (elseWord ++ t) (scriptRecord 6 0 0 0)
+else-said (Operands.none e) = Said.said Statement.else e
+
+end-said : {t : List ℕ} → Operands t [] → Said (endWord ++ t) (scriptRecord 7 0 0 0)
+end-said (Operands.none e) = Said.said Statement.end e
+
+keyword-said : {w t : List ℕ} {k : ℕ} (s : List ℕ) → Keyword w k → Operands t (operands (operandCount k) s)
+    → Said (w ++ t) (recordWith k (operands (operandCount k) s))
+unfolding operandCount
+keyword-said s Keyword.write o = write-said o
+keyword-said s Keyword.read o = read-said o
+keyword-said s Keyword.delay o = delay-said o
+keyword-said s Keyword.repeat o = repeat-said o
+keyword-said s Keyword.if o = if-said o
+keyword-said s Keyword.else o = else-said o
+keyword-said s Keyword.end o = end-said o
+
+pub statement-said : (s : List ℕ) → isStatement s ≡ true → Said (word s ++ afterWord s) (statementRecord s)
+unfolding isStatement statementRecord
+statement-said s h =
+    let k = kindOf (word s) in
+    let p = both (not (eqb k 0)) (areOperands (operandCount k) (afterWord s)) h in
+    keyword-said (afterWord s) (keyword-of (word s) (not-true (eqb k 0) (p .0)))
+    (operands-of (operandCount k) (afterWord s) (word-stops s) (p .1))

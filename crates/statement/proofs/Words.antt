@@ -7,8 +7,8 @@ use mathlib.Core.List.{List, [], _∷_, _++_, append-nil}
 use borrow.Author.Tests.{eqb-true, not-false}
 use lib.Dec.{eqb}
 use lib.ListN.{drop, length, take, take-append-drop}
-use native.Mathlib.Omega.{arith}
 use lib.Seq.{drop-append-seam, take-append-seam}
+use native.Mathlib.Omega.{arith}
 use Rattle.lists.specs.All.{All}
 use Rattle.statement.specs.Grammar.{Blank, Blanks, Gap}
 use Rattle.statement.specs.Line.{afterWord, isBlank, isEmpty, notBlank, run, unindented, word}
