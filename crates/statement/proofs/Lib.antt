@@ -1,4 +1,11 @@
+pub mod Complete
+pub mod Contents
 pub mod Fields
+pub mod Numbers
+pub mod OneReading
 pub mod Reading
 pub mod Runs
+pub mod Sound
+pub mod Statements
 pub mod Stopped
+pub mod Words
