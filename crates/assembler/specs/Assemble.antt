@@ -1,15 +1,16 @@
 -- What the assembler returns, and what it writes. See docs/TEXT.md, "Reading: refusals".
 use Prim.Native.Nat.{ℕ, suc, _*_, _/_}
-use mathlib.Core.Bool.{Bool, cond, not}
+use mathlib.Core.Path.{_≡_}
+use mathlib.Core.Bool.{Bool, false, cond, not, _&&_}
 use mathlib.Core.List.{List, [], _∷_, _++_}
 use lib.Dec.{eqb, ltb}
-use lib.ListN.{drop, length}
+use lib.ListN.{drop, length, take}
 use Rattle.outcome.specs.Number as number
 use Rattle.outcome.specs.Refusal.{refusal}
 use Rattle.outcome.specs.declared.Refusal.{Refusal}
 use Rattle.record.specs.Record.{bytesOf, recordSize}
 use Rattle.record.specs.declared.Record.{Record}
-use Rattle.statement.specs.Line.{lineFault, lineRecords}
+use Rattle.statement.specs.Line.{lineFault, lineRecords, notSemicolon}
 use Rattle.assembler.specs.declared.AssembleResult.{AssembleResult}
 
 -- ---- lines
@@ -77,3 +78,22 @@ withRecords rs buffer = recordBytes rs ++ drop (recordSize * length rs) buffer
 -- "a refusal writes to no lent buffer, and success leaves the rest as lent"
 unfoldable pub recordsAfter : (text buffer : List ℕ) → List ℕ
 recordsAfter text buffer = cond (eqb (textRefusal text buffer .number) 0) (withRecords (textRecords text) buffer) buffer
+
+-- ---- the steps of the code
+
+-- neither a line feed nor a semicolon
+abbrev pub beforeComment : ℕ → Bool
+beforeComment b = notLineFeed b && notSemicolon b
+
+-- a record at its place in a buffer; without room for it, the buffer is unchanged
+unfoldable pub putRecord : (place : ℕ) → Record → List ℕ → List ℕ
+putRecord place r buffer =
+    cond (ltb place (length buffer / recordSize))
+    (take (recordSize * place) buffer ++ (bytesOf r ++ drop recordSize (drop (recordSize * place) buffer)))
+    buffer
+
+-- the lines are read: refusals 30, 31 and 32, or the number of records. If no line is bad and there is room for the records, they are written
+pub record LinesRead (text buffer after : List ℕ) (r : AssembleResult) : Type 0 where
+  pub answered : r ≡ checkResult text
+  pub lent : length after ≡ length buffer
+  pub written : badLine text .number ≡ 0 → noRoom text buffer ≡ false → after ≡ withRecords (textRecords text) buffer

@@ -1,2 +1,3 @@
-pub mod Grammar
 pub mod Assemble
+pub mod Grammar
+pub mod TextCorrect

@@ -4,19 +4,10 @@
 use record::Record;
 ghost use mathlib.Core.Path.{_≡_};
 ghost use mathlib.Core.List.{_++_};
-ghost use Prim.Native.Nat.{suc, _+_, _*_, _≤_};
+ghost use Prim.Native.Nat.{suc, _+_, _≤_};
 ghost use lib.ListN.{length, take, drop};
-ghost use Rattle.record.specs.Record.{bytesOf, recordSize};
 ghost use Rattle.statement.specs.Line.{run};
-ghost use Rattle.assembler.specs.Assemble.{
-  assembleResult,
-  badLine,
-  checkResult,
-  notLineFeed,
-  recordsAfter,
-  textRecords,
-  withRecords,
-};
+ghost use Rattle.assembler.specs.Assemble.{LinesRead, assembleResult, beforeComment, notLineFeed, putRecord, recordsAfter};
 
 // Refusal 0 and the number of records, or a refusal with its place.
 pub struct AssembleResult {
@@ -25,7 +16,30 @@ pub struct AssembleResult {
     pub records: usize,
 }
 
+// Up to this many records are kept in a buffer of the assembler's own until the last line is known to be good. It is the most that a script may have.
+const MOST_KEPT: usize = Record::MOST;
+
+const KEPT_SIZE: usize = Record::SIZE * Record::MOST;
+
 // ---- lines
+
+// The index of the first line feed or semicolon from `at` on, or the length of the text.
+fn comment_start(text: &[u8], at: usize) -> usize
+    requires { ⌜ at ≤ length (now text) ⌝ }
+    ensures { λ r. ⌜ r ≡ at + run beforeComment (drop at (now (text .entry))) ⌝ }
+{
+    let mut k = at;
+    while k < text.len() {
+        if text[k] == b'\n' {
+            break;
+        }
+        if text[k] == b';' {
+            break;
+        }
+        k = k + 1;
+    }
+    k
+}
 
 // The index of the first line feed from `at` on, or the length of the text.
 fn line_end(text: &[u8], at: usize) -> usize
@@ -55,16 +69,27 @@ fn next_line(text: &[u8], end: usize) -> usize
 
 // ---- texts
 
-// Refusals 30, 31 and 32, or the number of statements.
-fn check(text: &[u8]) -> AssembleResult
-    ensures { λ r. ⌜ r ≡ checkResult (now (text .entry)) ⌝ }
+// Writes a record at its place in the buffer, if there is room for it.
+fn put(records: &mut [u8], place: usize, r: Record)
+    ensures { λ _. ⌜ now (records .exit) ≡ putRecord place r (now (records .entry)) ⌝ }
+{
+    if place < records.len() / Record::SIZE {
+        let at = Record::SIZE * place;
+        record::write(&mut records[at..], r);
+    }
+}
+
+// Refusals 30, 31 and 32, or the number of statements. Writes the record of each statement that the buffer has room for.
+fn read_lines(text: &[u8], records: &mut [u8]) -> AssembleResult
+    ensures { λ r. ⌜ LinesRead (now (text .entry)) (now (records .entry)) (now (records .exit)) r ⌝ }
 {
     let mut at: usize = 0;
     let mut line: usize = 0;
-    let mut records: usize = 0;
+    let mut written: usize = 0;
     while at < text.len() {
-        let end = line_end(text, at);
-        let r = statement::read(&text[at..end]);
+        let comment = comment_start(text, at);
+        let end = line_end(text, comment);
+        let r = statement::read(&text[at..end], comment - at);
         if r.fault != 0 {
             return AssembleResult {
                 refusal: r.fault,
@@ -72,49 +97,35 @@ fn check(text: &[u8]) -> AssembleResult
                 records: 0,
             };
         }
-        records = records + r.statements;
+        if r.statements != 0 {
+            put(records, written, r.found);
+            written = written + 1;
+        }
         line = line + 1;
         at = next_line(text, end);
     }
     AssembleResult {
         refusal: 0,
         place: 0,
-        records,
+        records: written,
     }
 }
 
-// Writes a record at its place in the buffer.
-fn put(records: &mut [u8], place: usize, r: Record)
-    requires { ⌜ recordSize * place + recordSize ≤ length (now records) ⌝ }
-    ensures { λ _. ⌜ now (records .exit) ≡ take (recordSize * place) (now (records .entry)) ++ (bytesOf r ++ drop recordSize (drop (recordSize * place) (now (records .entry)))) ⌝ }
+// Copies the first `end` bytes of the kept records to the front of the buffer.
+fn copy(records: &mut [u8], kept: &[u8; KEPT_SIZE], end: usize)
+    requires { ⌜ (end ≤ length (now kept)) × (end ≤ length (now records)) ⌝ }
+    ensures { λ _. ⌜ now (records .exit) ≡ take end (now (kept .entry)) ++ drop end (now (records .entry)) ⌝ }
 {
-    let at = Record::SIZE * place;
-    record::write(&mut records[at..], r);
+    lists::put(records, 0, &kept[..end]);
 }
 
-// Writes the records of a text without a bad line to a buffer that is long enough for them.
-fn write_records(text: &[u8], records: &mut [u8])
-    requires { ⌜ (badLine (now text) .number ≡ 0) × (recordSize * length (textRecords (now text)) ≤ length (now records)) ⌝ }
-    ensures { λ _. ⌜ now (records .exit) ≡ withRecords (textRecords (now (text .entry))) (now (records .entry)) ⌝ }
-{
-    let mut at: usize = 0;
-    let mut written: usize = 0;
-    while at < text.len() {
-        let end = line_end(text, at);
-        let r = statement::read(&text[at..end]);
-        if r.statements != 0 {
-            put(records, written, r.found);
-            written = written + 1;
-        }
-        at = next_line(text, end);
-    }
-}
-
-// Reads a text script. All lines are read twice: nothing may be written before the last one is known to be good.
+// Reads a text script. Nothing may be written to the buffer before the last line is known to be good, so the records are kept elsewhere until then. If
+// there are more than can be kept, all lines are read again.
 pub fn assemble(text: &[u8], records: &mut [u8]) -> AssembleResult
     ensures { λ r. ⌜ (r ≡ assembleResult (now (text .entry)) (now (records .entry))) × (now (records .exit) ≡ recordsAfter (now (text .entry)) (now (records .entry))) ⌝ }
 {
-    let found = check(text);
+    let mut kept = [0u8; KEPT_SIZE];
+    let found = read_lines(text, &mut kept);
     if found.refusal != 0 {
         return found;
     }
@@ -125,6 +136,10 @@ pub fn assemble(text: &[u8], records: &mut [u8]) -> AssembleResult
             records: 0,
         };
     }
-    write_records(text, records);
-    found
+    if found.records <= MOST_KEPT {
+        let end = Record::SIZE * found.records;
+        copy(records, &kept, end);
+        return found;
+    }
+    read_lines(text, records)
 }

@@ -10,6 +10,15 @@ use lib.ListN.{drop, drop-of-length-le, getD, length}
 use lib.Seq.{drop-cons}
 use Rattle.statement.specs.Line.{lastByte, sameWord}
 
+-- a negated test
+pub not-taken : (b : Bool) → not b ≡ true → b ≡ false
+not-taken true e = sym e
+not-taken false e = refl
+
+pub not-left : (b : Bool) → not b ≡ false → b ≡ true
+not-left true e = refl
+not-left false e = sym e
+
 -- a text whose last byte is not 0 is not empty
 pub last-inside : (s : List ℕ) (b : ℕ) → 0 < b → lastByte s ≡ b → 1 ≤ length s
 last-inside [] b h e = absurd (omega (arith, e))

@@ -103,11 +103,15 @@ kindOf w =
     (cond (sameWord w repeatWord) kind.repeat
     (cond (sameWord w ifWord) kind.if (cond (sameWord w elseWord) kind.else (cond (sameWord w endWord) kind.end 0))))))
 
+-- the number after `delay` and `repeat` is a count
+abbrev pub hasCount : ℕ → Bool
+hasCount k = eqb k kind.delay || eqb k kind.repeat
+
 -- how many numbers follow the keyword: width, port and value; width and port; a count; none
 unfoldable pub operandCount : ℕ → ℕ
 operandCount k =
     cond (eqb k kind.write || eqb k kind.if) 3
-    (cond (eqb k kind.read) 2 (cond (eqb k kind.delay || eqb k kind.repeat) 1 0))
+    (cond (eqb k kind.read) 2 (cond (hasCount k) 1 0))
 
 -- the text is n numbers, and nothing else
 abbrev pub areOperands : ℕ → List ℕ → Bool
@@ -122,7 +126,7 @@ operands (suc n) s = valueOf (word s) ∷ operands n (afterWord s)
 -- the record of a kind with these operands. Those that the kind does not have are 0
 abbrev pub recordWith : ℕ → List ℕ → Record
 recordWith k vs =
-    cond (eqb k kind.delay || eqb k kind.repeat) (scriptRecord k 0 0 (getD vs 0 0))
+    cond (hasCount k) (scriptRecord k 0 0 (getD vs 0 0))
     (scriptRecord k (getD vs 0 0) (getD vs 1 0) (getD vs 2 0))
 
 unfoldable pub isStatement : List ℕ → Bool

@@ -2,6 +2,7 @@
 // specs/Grammar.antt has the grammar, specs/Line.antt what these functions return.
 use record::Record;
 ghost use mathlib.Core.Path.{_≡_};
+ghost use mathlib.Core.Bool.{cond};
 ghost use mathlib.Core.List.{[], _∷_};
 ghost use Prim.Native.Nat.{_+_, _≤_, _<_};
 ghost use lib.ListN.{length, drop};
@@ -11,6 +12,8 @@ ghost use Rattle.statement.specs.Line.{
   OperandAt,
   beforeReturn,
   capped,
+  contentLength,
+  hasCount,
   isBlank,
   isHex,
   kindOf,
@@ -96,20 +99,6 @@ fn word_end(s: &[u8], at: usize) -> usize
     let mut k = at;
     while k < s.len() {
         if is_blank(s[k]) {
-            break;
-        }
-        k = k + 1;
-    }
-    k
-}
-
-// The index of the first semicolon.
-fn comment_start(s: &[u8]) -> usize
-    ensures { λ r. ⌜ r ≡ run notSemicolon (now (s .entry)) ⌝ }
-{
-    let mut k: usize = 0;
-    while k < s.len() {
-        if s[k] == b';' {
             break;
         }
         k = k + 1;
@@ -320,15 +309,34 @@ fn with_record(kind: u32, width: u64, port: u64, value: u64) -> LineResult
     }
 }
 
-// The record of a statement with these operands: a count is the value.
+// Does a statement of this kind have a count?
+fn has_count(kind: u32) -> bool
+    ensures { λ r. ⌜ r ≡ hasCount kind ⌝ }
+{
+    if kind == script::DELAY {
+        return true;
+    }
+    kind == script::REPEAT
+}
+
+fn choose(test: bool, a: u64, b: u64) -> u64
+    ensures { λ r. ⌜ r ≡ cond test a b ⌝ }
+{
+    if test {
+        return a;
+    }
+    b
+}
+
+// The record of a statement with these operands, or refusal 32. A count is the value.
 fn with_operands(kind: u32, first: u64, second: u64, third: u64) -> LineResult
     ensures { λ r. ⌜ r ≡ resultOf (recordWith kind (first ∷ second ∷ third ∷ [])) ⌝ }
 {
-    match kind {
-        script::DELAY => with_record(kind, 0, 0, first),
-        script::REPEAT => with_record(kind, 0, 0, first),
-        _ => with_record(kind, first, second, third),
-    }
+    let counts = has_count(kind);
+    let width = choose(counts, 0, first);
+    let port = choose(counts, 0, second);
+    let value = choose(counts, first, third);
+    with_record(kind, width, port, value)
 }
 
 // The statement in a line without its comment, if there is one.
@@ -375,14 +383,26 @@ fn before_return(line: &[u8]) -> usize
     line.len()
 }
 
-// Reads a line, which has no line feed in it.
-pub fn read(line: &[u8]) -> LineResult
+// The length of what is before the comment, or before a carriage return as the last byte.
+fn content_length(line: &[u8], comment: usize) -> usize
+    requires { ⌜ comment ≡ run notSemicolon (now line) ⌝ }
+    ensures { λ r. ⌜ r ≡ contentLength (now (line .entry)) ⌝ }
+{
+    if comment < line.len() {
+        return comment;
+    }
+    before_return(line)
+}
+
+// Reads a line, which has no line feed in it. `comment` is the index of its first semicolon, or its length: the caller finds it while it looks for
+// the end of the line.
+pub fn read(line: &[u8], comment: usize) -> LineResult
+    requires { ⌜ comment ≡ run notSemicolon (now line) ⌝ }
     ensures { λ r. ⌜ r ≡ lineResult (now (line .entry)) ⌝ }
 {
     if MOST_BYTES < line.len() {
         return without_record(outcome::LINE_TOO_LONG);
     }
-    let end = before_return(line);
-    let stop = comment_start(&line[..end]);
-    read_statement(&line[..stop])
+    let end = content_length(line, comment);
+    read_statement(&line[..end])
 }

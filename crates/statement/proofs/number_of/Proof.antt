@@ -1,9 +1,11 @@
 -- `number_of` returns the number of digits of a base. At each turn, the digits that are left complete it.
 use Prim.Native.Nat.{_-_}
 use mathlib.Core.Path.{_≡_, ap, sym, _∙_}
+use native.Mathlib.Nat.{mul-le-mul}
 use native.Mathlib.Omega.{arith}
 use borrow.Author.Needs.{needs}
 use lib.ListN.{length}
+use Rattle.statement.specs.Line.{tooBig}
 use Rattle.statement.proofs.Stopped.{Reads, a-number, not-number, read-end, read-on, read-start, read-stop}
 use Rattle.statement.proofs.number_of.Statement.{statement}
 use Rattle.statement.proofs.number_of.Tie as tie
@@ -31,10 +33,18 @@ returns c =
     not-number (a .base) (a .digits .now) (read-stop (a .digits .now) (a .base) (l .value) (l .k) (l .inv) (omega arith) (rw d at (c .if1 .taken)))
 
 mul-capped : tie.Need-mul-capped Inv-loop μ-loop
-mul-capped c = ?
+mul-capped c =
+    let l = c .before .before .before .before .loop in
+    let a = c .before .before .before .before .before .before .args in
+    let m = mul-le-mul {n₁ = l .value} {m₁ = a .base} {n₂ = tooBig} {m₂ = 16} (l .inv .small) (omega arith) in
+    omega (arith, m)
 
 add-capped : tie.Need-add-capped Inv-loop μ-loop
-add-capped c = ?
+add-capped c =
+    let l = c .before .before .before .before .loop in
+    let a = c .before .before .before .before .before .before .args in
+    let m = mul-le-mul {n₁ = l .value} {m₁ = a .base} {n₂ = tooBig} {m₂ = 16} (l .inv .small) (omega arith) in
+    omega (arith, m)
 
 capped-requires : tie.Need-capped-requires Inv-loop μ-loop
 capped-requires c κs = search needs

@@ -1,23 +1,15 @@
 -- `skip_blanks` returns the index of the first byte that is not a blank, or the length. At each turn all bytes since `at` are blanks.
 use Prim.Native.Nat.{_-_}
-use mathlib.Core.Path.{_≡_, refl, sym, _∙_}
-use mathlib.Core.Bool.{Bool, true, false, not}
+use mathlib.Core.Path.{refl, sym, _∙_}
 use native.Mathlib.Omega.{arith}
 use lib.ListN.{length}
 use borrow.Author.Needs.{needs}
 use Rattle.statement.specs.Line.{isBlank}
+use Rattle.statement.proofs.Reading.{not-left, not-taken}
 use Rattle.statement.proofs.Runs.{Scanning, scan-end, scan-on, scan-stop}
 use Rattle.statement.proofs.skip_blanks.Statement.{statement}
 use Rattle.statement.proofs.skip_blanks.Tie as tie
 use Rattle.statement.proofs.is_blank.Reads as is-blank-reads
-
-not-taken : (b : Bool) → not b ≡ true → b ≡ false
-not-taken true e = sym e
-not-taken false e = refl
-
-not-left : (b : Bool) → not b ≡ false → b ≡ true
-not-left true e = refl
-not-left false e = sym e
 
 abbrev Inv-loop : tie.InvT-loop
 Inv-loop s at k₀ k = Scanning isBlank s at k

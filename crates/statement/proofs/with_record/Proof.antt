@@ -2,6 +2,7 @@
 use mathlib.Core.Path.{_≡_, sym, _∙_}
 use mathlib.Core.Bool.{false≢true}
 use native.Mathlib.Omega.{arith}
+use Rattle.statement.proofs.Reading.{not-left, not-taken}
 use Rattle.statement.proofs.Fields.{does-fit, does-not-fit, fits-small, good-needed}
 use borrow.Author.Needs.{needs}
 use Rattle.statement.proofs.with_record.Statement.{statement}
@@ -47,10 +48,12 @@ without-record-requires-4 : tie.Need-without-record-requires-4
 without-record-requires-4 c κs = search needs
 
 returns-4 : tie.Need-returns-4
-returns-4 c = c .without-record4 .ensures ∙ does-not-fit _ (λ h. ?)
+returns-4 c =
+    let bad = not-taken _ (c .before .if4 .taken) in
+    c .without-record4 .ensures ∙ does-not-fit _ (λ h. false≢true (sym bad ∙ c .before .before .good-fields .ensures ∙ good-needed _ h))
 
 returns-5 : tie.Need-returns-5
-returns-5 c = does-fit _ (omega arith) ?
+returns-5 c = does-fit _ (omega arith) (sym (c .before .good-fields .ensures) ∙ not-left _ (c .if4 .left))
 
 pub with-record-spec : {M : Type 1} → statement M
 with-record-spec =
