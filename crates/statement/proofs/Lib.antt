@@ -1,8 +1,11 @@
 pub mod Complete
 pub mod Contents
 pub mod Fields
+pub mod Keywords
+pub mod LineResults
 pub mod Numbers
 pub mod OneReading
+pub mod Operands
 pub mod Reading
 pub mod Runs
 pub mod Sound

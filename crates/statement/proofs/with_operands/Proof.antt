@@ -1,9 +1,10 @@
+-- `with_operands` takes a count as the value, and otherwise the operands in order.
+use mathlib.Core.Path.{_≡_, ap, _∙_}
+use Rattle.statement.specs.Line.{hasCount, resultOf}
+use Rattle.statement.proofs.Reading.{chosen-fields}
 use borrow.Author.Needs.{needs}
 use Rattle.statement.proofs.with_operands.Statement.{statement}
 use Rattle.statement.proofs.with_operands.Tie as tie
-use Rattle.statement.proofs.choose.Reads as choose-reads
-use Rattle.statement.proofs.has_count.Reads as has-count-reads
-use Rattle.statement.proofs.with_record.Reads as with-record-reads
 
 has-count-requires : tie.Need-has-count-requires
 has-count-requires c κs = search needs
@@ -21,7 +22,12 @@ with-record-requires : tie.Need-with-record-requires
 with-record-requires c κs = search needs
 
 returns : tie.Need-returns
-returns c = ?
+returns c =
+    let a = c .before .before .before .before .before .args in
+    let counts = c .before .before .before .before .has-count .ensures in
+    c .with-record .ensures
+    ∙ rw (c .before .before .before .choose .ensures, c .before .before .choose2 .ensures, c .before .choose3 .ensures, counts)
+    (ap resultOf (chosen-fields (a .kind) (a .first) (a .second) (a .third) (hasCount (a .kind))))
 
 pub with-operands-spec : {M : Type 1} → statement M
 with-operands-spec =

@@ -2,6 +2,7 @@
 use mathlib.Core.Path.{_≡_, sym, _∙_}
 use mathlib.Core.Bool.{false≢true}
 use native.Mathlib.Omega.{arith}
+use Rattle.script.specs.Nested.{scriptRecord}
 use Rattle.statement.proofs.Reading.{not-left, not-taken}
 use Rattle.statement.proofs.Fields.{does-fit, does-not-fit, fits-small, good-needed}
 use borrow.Author.Needs.{needs}
@@ -49,8 +50,9 @@ without-record-requires-4 c κs = search needs
 
 returns-4 : tie.Need-returns-4
 returns-4 c =
+    let a = c .before .before .before .before .before .before .args in
     let bad = not-taken _ (c .before .if4 .taken) in
-    c .without-record4 .ensures ∙ does-not-fit _ (λ h. false≢true (sym bad ∙ c .before .before .good-fields .ensures ∙ good-needed _ h))
+    c .without-record4 .ensures ∙ does-not-fit _ (λ h. false≢true (sym bad ∙ c .before .before .good-fields .ensures ∙ good-needed (scriptRecord (a .kind) (a .width) (a .port) (a .value)) h))
 
 returns-5 : tie.Need-returns-5
 returns-5 c = does-fit _ (omega arith) (sym (c .before .good-fields .ensures) ∙ not-left _ (c .if4 .left))
