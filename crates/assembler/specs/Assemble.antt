@@ -1,10 +1,10 @@
 -- What the assembler returns, and what it writes. See docs/TEXT.md, "Reading: refusals".
-use Prim.Native.Nat.{ℕ, suc, _*_, _/_}
+use Prim.Native.Nat.{ℕ, suc, _-_, _*_, _/_, _≤_}
 use mathlib.Core.Path.{_≡_}
 use mathlib.Core.Bool.{Bool, false, cond, not, _&&_}
 use mathlib.Core.List.{List, [], _∷_, _++_}
 use lib.Dec.{eqb, ltb}
-use lib.ListN.{drop, length, take}
+use lib.ListN.{drop, getD, length, take}
 use Rattle.outcome.specs.Number as number
 use Rattle.outcome.specs.Refusal.{refusal}
 use Rattle.outcome.specs.declared.Refusal.{Refusal}
@@ -12,6 +12,7 @@ use Rattle.record.specs.Record.{bytesOf, recordSize}
 use Rattle.record.specs.declared.Record.{Record}
 use Rattle.statement.specs.Line.{lineFault, lineRecords, notSemicolon}
 use Rattle.assembler.specs.declared.AssembleResult.{AssembleResult}
+use Rattle.assembler.specs.declared.LineSpan.{LineSpan}
 
 -- ---- lines
 abbrev pub notLineFeed : ℕ → Bool
@@ -97,3 +98,9 @@ pub record LinesRead (text buffer after : List ℕ) (r : AssembleResult) : Type 
   pub answered : r ≡ checkResult text
   pub lent : length after ≡ length buffer
   pub written : badLine text .number ≡ 0 → noRoom text buffer ≡ false → after ≡ withRecords (textRecords text) buffer
+
+-- the line with this number; after the last line it is empty
+pub record LineAt (text : List ℕ) (place : ℕ) (span : LineSpan) : Type 0 where
+  pub ordered : span .from ≤ span .to
+  pub inside : span .to ≤ length text
+  pub line : take (span .to - span .from) (drop (span .from) text) ≡ getD (linesOf text) place []

@@ -1,5 +1,5 @@
 // The assembler: reads a text script, writes its records to the front of the record buffer, and returns their number or a refusal.
-// `assemble` is the only public call; `runnelopal`, `replay` and the program `assemble` use it. It relies on `statement::read` for each line.
+// `runnelopal`, `replay` and the program `assemble` call `assemble`. It relies on `statement::read` for each line.
 // See docs/TEXT.md, "Reading: refusals".
 use record::Record;
 ghost use mathlib.Core.Path.{_≡_};
@@ -7,7 +7,7 @@ ghost use mathlib.Core.List.{_++_};
 ghost use Prim.Native.Nat.{suc, _+_, _≤_};
 ghost use lib.ListN.{length, take, drop};
 ghost use Rattle.statement.specs.Line.{run};
-ghost use Rattle.assembler.specs.Assemble.{LinesRead, assembleResult, beforeComment, notLineFeed, putRecord, recordsAfter};
+ghost use Rattle.assembler.specs.Assemble.{LineAt, LinesRead, assembleResult, beforeComment, notLineFeed, putRecord, recordsAfter};
 
 // Refusal 0 and the number of records, or a refusal with its place.
 pub struct AssembleResult {
@@ -65,6 +65,30 @@ fn next_line(text: &[u8], end: usize) -> usize
         return end + 1;
     }
     end
+}
+
+// Where a line is in the text. The line feed is not part of it.
+pub struct LineSpan {
+    pub from: usize,
+    pub to: usize,
+}
+
+// The line with this number, counted from 0. After the last line it is empty. A program can show the line that a refusal names.
+pub fn find_line(text: &[u8], place: usize) -> LineSpan
+    ensures { λ r. ⌜ LineAt (now (text .entry)) place r ⌝ }
+{
+    let mut at: usize = 0;
+    let mut k: usize = 0;
+    while k < place {
+        if text.len() <= at {
+            break;
+        }
+        let end = line_end(text, at);
+        at = next_line(text, end);
+        k = k + 1;
+    }
+    let to = line_end(text, at);
+    LineSpan { from: at, to }
 }
 
 // ---- texts
