@@ -1,0 +1,4 @@
+pub mod Lengths
+pub mod Lines
+pub mod Pieces
+pub mod Records
