@@ -9,7 +9,7 @@ use borrow.Author.Tests.{eqb-true, ne-eqb}
 use lib.Dec.{eqb}
 use lib.ListN.{length, length-append, length-replicate}
 use Rattle.digits.proofs.Puts.{puts-both}
-use Rattle.digits.specs.Text.{Line, lineAt, put, puts}
+use Rattle.digits.specs.Text.{lineAt, puts}
 use Rattle.outcome.specs.Refusal.{refusal}
 use Rattle.outcome.specs.declared.Refusal.{Refusal}
 use Rattle.record.specs.Record.{recordAt, recordSize}
@@ -24,7 +24,6 @@ use Rattle.lister.specs.Listing.{
   lineText,
   listing,
   listingFrom,
-  margin,
   marginLength,
   measured,
   refusedAt,

@@ -32,11 +32,16 @@ same-length : tie.Need-same-length
 same-length c = search needs
 
 returns : tie.Need-returns
-returns c = let r = c .before .before .before .before .before .before .before .before .before .before .before .before .before .before .before .before .before .before .before .before .before .before .args .r in
+returns c =
+    let port = c .before .before .before .before .before .before in
+    let space = port .before .before .before .before in
+    let width = space .before .before .before .before in
+    let start = width .before .before .before .before .before in
+    let r = start .before .before .before .args .r in
     c .before .before .put4 .ensures
     ∙ ap (put 0x68)
-    (c .before .before .before .before .before .before .put-pair .ensures
-    ∙ ap (puts (pairText (r .port))) (c .before .before .before .before .before .before .before .before .before .before .put3 .ensures ∙ ap (put 0x20) (c .before .before .before .before .before .before .before .before .before .before .before .before .before .before .put2 .ensures ∙ ap (put (0x30 + r .width)) (c .before .before .before .before .before .before .before .before .before .before .before .before .before .before .before .before .before .before .before .put .ensures))))
+    (port .put-pair .ensures
+    ∙ ap (puts (pairText (r .port))) (space .put3 .ensures ∙ ap (put 0x20) (width .put2 .ensures ∙ ap (put (0x30 + r .width)) (start .put .ensures))))
 
 pub put-access-spec : {M : Type 1} → statement M
 put-access-spec =

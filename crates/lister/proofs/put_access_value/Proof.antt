@@ -23,10 +23,14 @@ same-length : tie.Need-same-length
 same-length c = search needs
 
 returns : tie.Need-returns
-returns c = let r = c .before .before .before .before .before .before .before .before .before .before .before .before .before .before .before .before .before .args .r in
+returns c =
+    let value = c .before .before .before .before .before .before in
+    let space = value .before .before .before .before in
+    let access = space .before .before .before .before in
+    let r = access .before .before .before .args .r in
     c .before .before .put2 .ensures
-    ∙ ap (put 0x68) (c .before .before .before .before .before .before .put-bytes .ensures ∙ ap (puts (bytesText (r .width) (r .value))) (c .before .before .before .before .before .before .before .before .before .before .put .ensures))
-    ∙ value-put r _ _ (c .before .before .before .before .before .before .before .before .before .before .before .before .before .before .put-access .ensures)
+    ∙ ap (put 0x68) (value .put-bytes .ensures ∙ ap (puts (bytesText (r .width) (r .value))) (space .put .ensures))
+    ∙ value-put r _ _ (access .put-access .ensures)
 
 pub put-access-value-spec : {M : Type 1} → statement M
 put-access-value-spec =

@@ -21,7 +21,12 @@ same-length : tie.Need-same-length
 same-length c = search needs
 
 returns : tie.Need-returns
-returns c = line-put (c .before .before .before .before .before .before .before .before .before .before .before .before .before .before .args .r) _ (c .before .before .before .before .before .before .before .before .before .before .before .before .before .before .args .depth) _ (c .before .before .before .before .before .before .before .before .before .before .before .before .margin-length .ensures) (c .before .before .before .before .before .before .before .before .before .before .put-spaces .ensures) (c .before .before .before .before .before .before .put-statement .ensures) (c .before .before .put .ensures)
+returns c =
+    let statement-put = c .before .before .before .before .before .before in
+    let spaces-put = statement-put .before .before .before .before in
+    let margin = spaces-put .before .before in
+    let a = margin .before .before .args in
+    line-put (a .r) _ (a .depth) _ (margin .margin-length .ensures) (spaces-put .put-spaces .ensures) (statement-put .put-statement .ensures) (c .before .before .put .ensures)
 
 pub put-line-spec : {M : Type 1} → statement M
 put-line-spec =

@@ -66,43 +66,63 @@ same-length : tie.Need-same-length
 same-length c = search needs
 
 returns : tie.Need-returns
-returns c = write-put (c .before .before .before .before .before .before .before .before .before .before .before .args .r) _ (c .before .before .before .before .before .before .before .before .before .match .keys1) (c .before .before .before .before .before .before .put-text .ensures) (c .before .before .put-access-value .ensures)
+returns c =
+    let word = c .before .before .before .before .before .before in
+    let s = word .before .before .before in
+    write-put (s .before .before .args .r) _ (s .match .keys1) (word .put-text .ensures) (c .before .before .put-access-value .ensures)
 
 same-length-2 : tie.Need-same-length-2
 same-length-2 c = search needs
 
 returns-2 : tie.Need-returns-2
-returns-2 c = read-put (c .before .before .before .before .before .before .before .before .before .before .before .args .r) _ (c .before .before .before .before .before .before .before .before .before .match .keys2) (c .before .before .before .before .before .before .put-text2 .ensures) (c .before .before .put-access .ensures)
+returns-2 c =
+    let word = c .before .before .before .before .before .before in
+    let s = word .before .before .before in
+    read-put (s .before .before .args .r) _ (s .match .keys2) (word .put-text2 .ensures) (c .before .before .put-access .ensures)
 
 same-length-3 : tie.Need-same-length-3
 same-length-3 c = search needs
 
 returns-3 : tie.Need-returns-3
-returns-3 c = delay-put (c .before .before .before .before .before .before .before .before .before .before .before .args .r) _ (c .before .before .before .before .before .before .before .before .before .match .keys3) (c .before .before .before .before .before .before .put-text3 .ensures) (c .before .before .put-count .ensures)
+returns-3 c =
+    let word = c .before .before .before .before .before .before in
+    let s = word .before .before .before in
+    delay-put (s .before .before .args .r) _ (s .match .keys3) (word .put-text3 .ensures) (c .before .before .put-count .ensures)
 
 same-length-4 : tie.Need-same-length-4
 same-length-4 c = search needs
 
 returns-4 : tie.Need-returns-4
-returns-4 c = repeat-put (c .before .before .before .before .before .before .before .before .before .before .before .args .r) _ (c .before .before .before .before .before .before .before .before .before .match .keys4) (c .before .before .before .before .before .before .put-text4 .ensures) (c .before .before .put-count2 .ensures)
+returns-4 c =
+    let word = c .before .before .before .before .before .before in
+    let s = word .before .before .before in
+    repeat-put (s .before .before .args .r) _ (s .match .keys4) (word .put-text4 .ensures) (c .before .before .put-count2 .ensures)
 
 same-length-5 : tie.Need-same-length-5
 same-length-5 c = search needs
 
 returns-5 : tie.Need-returns-5
-returns-5 c = if-put (c .before .before .before .before .before .before .before .before .before .before .before .args .r) _ (c .before .before .before .before .before .before .before .before .before .match .keys5) (c .before .before .before .before .before .before .put-text5 .ensures) (c .before .before .put-access-value2 .ensures)
+returns-5 c =
+    let word = c .before .before .before .before .before .before in
+    let s = word .before .before .before in
+    if-put (s .before .before .args .r) _ (s .match .keys5) (word .put-text5 .ensures) (c .before .before .put-access-value2 .ensures)
 
 same-length-6 : tie.Need-same-length-6
 same-length-6 c = search needs
 
 returns-6 : tie.Need-returns-6
-returns-6 c = else-put (c .before .before .before .before .before .before .before .args .r) _ (c .before .before .before .before .before .match .keys6) (c .before .before .put-text6 .ensures)
+returns-6 c =
+    let s = c .before .before .before .before .before in
+    else-put (s .before .before .args .r) _ (s .match .keys6) (c .before .before .put-text6 .ensures)
 
 same-length-7 : tie.Need-same-length-7
 same-length-7 c = search needs
 
 returns-7 : tie.Need-returns-7
-returns-7 c = let rest = c .before .before .before .before .before .match .rest in end-put (c .before .before .before .before .before .before .before .args .r) _ (rest .0 .0 .0 .0 .0 .1) (rest .0 .0 .0 .0 .1) (rest .0 .0 .0 .1) (rest .0 .0 .1) (rest .0 .1) (rest .1) (c .before .before .put-text7 .ensures)
+returns-7 c =
+    let s = c .before .before .before .before .before in
+    let rest = s .match .rest in
+    end-put (s .before .before .args .r) _ (rest .0 .0 .0 .0 .0 .1) (rest .0 .0 .0 .0 .1) (rest .0 .0 .0 .1) (rest .0 .0 .1) (rest .0 .1) (rest .1) (c .before .before .put-text7 .ensures)
 
 pub put-statement-spec : {M : Type 1} → statement M
 put-statement-spec =
