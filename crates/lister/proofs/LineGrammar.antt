@@ -13,6 +13,7 @@ use Rattle.digits.proofs.Puts.{decimal-length}
 use Rattle.record.specs.declared.Record.{Record}
 use Rattle.statement.specs.Grammar.{Blank, Blanks, Comment, Gap, Line, Number, Return, Statement}
 use Rattle.lister.specs.Listing.{lineDepth, lineText, marginLength, statementText, valueText, widthText}
+use Rattle.lister.proofs.Lengths.{margin-most}
 use Rattle.lister.proofs.LineFeeds.{no-line-feed}
 use Rattle.lister.proofs.Numbers.{byte-number, count-number, four-number, pair-number, port-number, width-number}
 use Rattle.lister.proofs.Shaped.{Shaped, Sized}
@@ -62,14 +63,6 @@ spaces : (n : ℕ) → Blanks (replicate n 0x20)
 spaces zero = Blanks.none
 spaces (suc n) = Blanks.more Blank.space (spaces n)
 
-margin-length : (depth kind : ℕ) → marginLength depth kind ≤ 64
-unfolding marginLength
-margin-length depth kind = pick (lineDepth depth kind) (leb (lineDepth depth kind) 16) refl
-  where
-    pick : (d : ℕ) (p : Bool) → leb d 16 ≡ p → 4 * cond p d 16 ≤ 64
-    pick d true e = let l = leb-true d 16 e in omega arith
-    pick d false e = omega arith
-
 -- ---- the laws
 module _ (depth : ℕ) {r : Record} (s : Shaped r) where
   pub line : Line (lineText depth r) (r ∷ [])
@@ -85,6 +78,6 @@ module _ (depth : ℕ) {r : Record} (s : Shaped r) where
   pub short : length (lineText depth r) ≤ 120
   unfolding lineText
   short =
-      let l = margin-length depth (r .kind) in
+      let l = margin-most depth (r .kind) in
       let m = statement-length s in
       simp (length-append, length-replicate) (omega arith)

@@ -366,7 +366,7 @@ fn read_statement(s: &[u8]) -> LineResult
         return without_record(outcome::NOT_IN_GRAMMAR);
     }
     if skip_blanks(s, third.next) != s.len() {
-        return without_record(outcome::NOT_IN_GRAMMAR);
+        return without_record(outcome::NOT_IN_GRAMMAR); // A word too many.
     }
     with_operands(kind, first.value, second.value, third.value)
 }

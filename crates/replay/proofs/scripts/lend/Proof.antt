@@ -1,4 +1,4 @@
--- `lend` is safe and ends: the index counts up to 16,384, so it lies within the image buffer.
+-- `lend` is safe and ends: the index counts up to 16,384, so it lies within the buffer buffer.
 use Prim.Native.Nat.{_≤_, _-_}
 use mathlib.Core.Path.{_≡_}
 use lib.ListN.{length}
@@ -7,19 +7,19 @@ use Rattle.replay.proofs.scripts.lend.Statement.{statement}
 use Rattle.replay.proofs.scripts.lend.Tie as tie
 
 abbrev Inv-loop : tie.InvT-loop
-Inv-loop image₀ k₀ image k = k ≤ 16384
+Inv-loop buffer₀ k₀ buffer k = k ≤ 16384
 
 abbrev μ-loop : tie.MeasureT-loop
-μ-loop image₀ k₀ image k = 16384 - k
+μ-loop buffer₀ k₀ buffer k = 16384 - k
 
 loop-holds : tie.Need-loop-holds Inv-loop μ-loop
 loop-holds c = search needs
 
-cast-image : tie.Need-cast-image Inv-loop μ-loop
-cast-image c = search needs
+cast-buffer : tie.Need-cast-buffer Inv-loop μ-loop
+cast-buffer c = search needs
 
-element-write-image : tie.Need-element-write-image Inv-loop μ-loop
-element-write-image c = search needs
+element-write-buffer : tie.Need-element-write-buffer Inv-loop μ-loop
+element-write-buffer c = search needs
 
 add-k : tie.Need-add-k Inv-loop μ-loop
 add-k c = search needs
@@ -40,8 +40,8 @@ lend-spec =
     Inv-loop
     μ-loop
     loop-holds
-    cast-image
-    element-write-image
+    cast-buffer
+    element-write-buffer
     add-k
     loop-less
     loop-again
