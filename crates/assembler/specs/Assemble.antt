@@ -5,6 +5,7 @@ use mathlib.Core.Bool.{Bool, false, cond, not, _&&_}
 use mathlib.Core.List.{List, [], _∷_, _++_}
 use lib.Dec.{eqb, ltb}
 use lib.ListN.{drop, getD, length, take}
+use Rattle.compiler.specs.Words.{imageBytes}
 use Rattle.outcome.specs.Number as number
 use Rattle.outcome.specs.Refusal.{refusal}
 use Rattle.outcome.specs.declared.Refusal.{Refusal}
@@ -46,10 +47,9 @@ badLine text = firstBadLine 0 (linesOf text)
 unfoldable pub textRecords : List ℕ → List Record
 textRecords text = recordsIn (linesOf text)
 
--- the bytes of records
+-- the bytes of records, 12 for each, as in an image
 abbrev pub recordBytes : List Record → List ℕ
-recordBytes [] = []
-recordBytes (r ∷ rs) = bytesOf r ++ recordBytes rs
+recordBytes = imageBytes
 
 -- "33 record buffer too short": it has room for fewer records
 abbrev pub noRoom : (text buffer : List ℕ) → Bool
@@ -92,6 +92,10 @@ putRecord place r buffer =
     cond (ltb place (length buffer / recordSize))
     (take (recordSize * place) buffer ++ (bytesOf r ++ drop recordSize (drop (recordSize * place) buffer)))
     buffer
+
+-- the record of a line, if the line has a statement
+abbrev pub putStatements : (statements place : ℕ) → Record → List ℕ → List ℕ
+putStatements n place r buffer = cond (eqb n 0) buffer (putRecord place r buffer)
 
 -- the lines are read: refusals 30, 31 and 32, or the number of records. If no line is bad and there is room for the records, they are written
 pub record LinesRead (text buffer after : List ℕ) (r : AssembleResult) : Type 0 where

@@ -4,10 +4,10 @@
 use record::Record;
 ghost use mathlib.Core.Path.{_≡_};
 ghost use mathlib.Core.List.{_++_};
-ghost use Prim.Native.Nat.{suc, _+_, _≤_};
+ghost use Prim.Native.Nat.{suc, _+_, _^_, _≤_, _<_};
 ghost use lib.ListN.{length, take, drop};
 ghost use Rattle.statement.specs.Line.{run};
-ghost use Rattle.assembler.specs.Assemble.{LineAt, LinesRead, assembleResult, beforeComment, notLineFeed, putRecord, recordsAfter};
+ghost use Rattle.assembler.specs.Assemble.{LineAt, LinesRead, assembleResult, beforeComment, notLineFeed, putStatements, recordsAfter};
 
 // Refusal 0 and the number of records, or a refusal with its place.
 pub struct AssembleResult {
@@ -93,14 +93,21 @@ pub fn find_line(text: &[u8], place: usize) -> LineSpan
 
 // ---- texts
 
-// Writes a record at its place in the buffer, if there is room for it.
-fn put(records: &mut [u8], place: usize, r: Record)
-    ensures { λ _. ⌜ now (records .exit) ≡ putRecord place r (now (records .entry)) ⌝ }
+// Writes the record of a line at its place in the buffer, if the line has one and there is room for it. Returns the place after it.
+fn put(records: &mut [u8], place: usize, statements: usize, r: Record) -> usize
+    requires { ⌜ place + statements < 2 ^ 64 ⌝ }
+    ensures { λ n. ⌜ (n ≡ place + statements) × (now (records .exit) ≡ putStatements statements place r (now (records .entry))) ⌝ }
 {
-    if place < records.len() / Record::SIZE {
-        let at = Record::SIZE * place;
-        record::write(&mut records[at..], r);
+    let next = place + statements;
+    if statements == 0 {
+        return next;
     }
+    if records.len() / Record::SIZE <= place {
+        return next;
+    }
+    let at = Record::SIZE * place;
+    record::write(&mut records[at..], r);
+    next
 }
 
 // Refusals 30, 31 and 32, or the number of statements. Writes the record of each statement that the buffer has room for.
@@ -121,10 +128,7 @@ fn read_lines(text: &[u8], records: &mut [u8]) -> AssembleResult
                 records: 0,
             };
         }
-        if r.statements != 0 {
-            put(records, written, r.found);
-            written = written + 1;
-        }
+        written = put(records, written, r.statements, r.found);
         line = line + 1;
         at = next_line(text, end);
     }
@@ -136,7 +140,7 @@ fn read_lines(text: &[u8], records: &mut [u8]) -> AssembleResult
 }
 
 // Copies the first `end` bytes of the kept records to the front of the buffer.
-fn copy(records: &mut [u8], kept: &[u8; KEPT_SIZE], end: usize)
+fn copy(records: &mut [u8], kept: &[u8], end: usize)
     requires { ⌜ (end ≤ length (now kept)) × (end ≤ length (now records)) ⌝ }
     ensures { λ _. ⌜ now (records .exit) ≡ take end (now (kept .entry)) ++ drop end (now (records .entry)) ⌝ }
 {

@@ -7,6 +7,7 @@ ghost use Prim.Native.Nat.{_≤_};
 ghost use lib.ListN.{length, replicate};
 ghost use Rattle.digits.specs.Text.{decimalText, lineAt, puts};
 ghost use Rattle.record.specs.Record.{mostRecords};
+ghost use Rattle.script.specs.Kind as recordKind;
 ghost use Rattle.script.specs.Scan.{shapeFault};
 ghost use Rattle.lister.specs.Listing.{
   accessText,
@@ -15,6 +16,7 @@ ghost use Rattle.lister.specs.Listing.{
   bytesText,
   countText,
   depthAfter,
+  lineDepth,
   lineText,
   listResult,
   listing,
@@ -43,16 +45,26 @@ const MOST_INDENTED: usize = 16;
 
 // ---- the margin of a line; `depth` is the number of blocks that are open before its record
 
+// The number of blocks that the line stands in.
+fn line_depth(depth: usize, kind: u32) -> usize
+    requires { ⌜ kind ≤ recordKind.end ⌝ }
+    ensures { λ r. ⌜ r ≡ lineDepth depth kind ⌝ }
+{
+    if kind < script::ELSE {
+        return depth;
+    }
+    if depth == 0 {
+        return 0;
+    }
+    depth - 1
+}
+
 // The number of spaces at the start of the line.
 fn margin_length(depth: usize, kind: u32) -> usize
+    requires { ⌜ kind ≤ recordKind.end ⌝ }
     ensures { λ r. ⌜ r ≡ marginLength depth kind ⌝ }
 {
-    let mut blocks = depth;
-    if script::ELSE <= kind {
-        if 0 < depth {
-            blocks = depth - 1;
-        }
-    }
+    let blocks = line_depth(depth, kind);
     if MOST_INDENTED < blocks {
         return INDENT * MOST_INDENTED;
     }
