@@ -5,10 +5,10 @@ use mathlib.Core.Bool.{Bool, true, false, cond, false≢true}
 use mathlib.Core.List.{List, [], _∷_, _++_, append-assoc, append-nil}
 use native.Mathlib.Numerals.{add-one}
 use native.Mathlib.Omega.{arith}
-use borrow.Author.Tests.{eq-eqb, eqb-true, lt-ltb, ltb-false, ltb-true, ne-eqb}
+use borrow.Author.Tests.{eq-eqb, eqb-true, le-ltb, lt-ltb, ltb-false, ltb-true, ne-eqb}
 use lib.Dec.{eqb, ltb}
 use lib.ListN.{drop, drop-of-length-le, length, length-append, length-drop, take}
-use lib.Seq.{length-take-le}
+use lib.Seq.{length-take-le, paste, take-all}
 use Rattle.compiler.proofs.Image.{one-more-word}
 use Rattle.outcome.specs.Refusal.{refusal}
 use Rattle.outcome.specs.declared.Refusal.{Refusal}
@@ -54,6 +54,13 @@ good-result l r e z = pick (eqb (lineFault l) 0) refl (isEmpty (word (content l)
         let g : r .fault ≡ lineFault l = ap (λ (x : LineResult). x .fault) f in
         absurd (false≢true (sym q ∙ eq-eqb (lineFault l) 0 (sym g ∙ z)))
 
+pub few-statements : (l : List ℕ) (r : LineResult) → r ≡ lineResult l → r .fault ≡ 0 → r .statements ≤ 1
+few-statements l r e z = pick (good-result l r e z .1)
+  where
+    pick : Found l r → r .statements ≤ 1
+    pick (nothing n q) = omega (arith, n)
+    pick (one n q) = omega (arith, n)
+
 -- ---- what holds before a line
 pub record Reading (text buffer now : List ℕ) (at line written : ℕ) : Type 0 where
   pub inside : at ≤ length text
@@ -81,7 +88,11 @@ starts text buffer = record {
 }
 
 -- ---- a record at its place keeps the length of the buffer
-put-room : (place : ℕ) (r : Record) (b : List ℕ) → place < length b / recordSize
+pub no-room : (place : ℕ) (r : Record) (b : List ℕ) → length b / recordSize ≤ place → putRecord place r b ≡ b
+unfolding putRecord
+no-room place r b h = rw (le-ltb place (length b / recordSize) h)
+
+pub put-room : (place : ℕ) (r : Record) (b : List ℕ) → place < length b / recordSize
     → putRecord place r b ≡ take (recordSize * place) b ++ (bytesOf r ++ drop recordSize (drop (recordSize * place) b))
 unfolding putRecord
 put-room place r b h = rw (lt-ltb place (length b / recordSize) h)
@@ -200,3 +211,11 @@ ends text buffer now at line written i h =
       lent = i .lent;
       written = λ g f. let l = ltb-false (length buffer / recordSize) (length (textRecords text)) f in rw (n, ← d) (i .held (omega (arith, n, l)));
     }
+
+-- ---- pasting the front of a list at index 0
+pub paste-front : (lent part after : List ℕ) (n : ℕ) → n ≤ length part → after ≡ paste lent 0 (take n part) (length (take n part))
+    → after ≡ take n part ++ drop n lent
+paste-front lent part after n h e =
+    let l = length-take-le n part h in
+    let m : 0 + n ≡ n = omega arith in
+    e ∙ rw (l, take-all n (take n part) (omega (arith, l)), m)

@@ -1,5 +1,13 @@
 pub mod Answers
+pub mod Bytes
+pub mod Faults
 pub mod Lengths
+pub mod LineFeeds
+pub mod LineGrammar
 pub mod Lines
+pub mod ListingCorrect
+pub mod ListingText
+pub mod Numbers
 pub mod Pieces
 pub mod Records
+pub mod Shaped
