@@ -1,6 +1,8 @@
 -- The line that a program prints if a call is refused.
-use Prim.Native.Nat.{ℕ}
+use Prim.Native.Nat.{ℕ, _≤_}
+use mathlib.Core.Path.{_≡_}
 use mathlib.Core.List.{List, [], _∷_, _++_}
+use lib.ListN.{length, take}
 use Rattle.digits.specs.Text.{decimalText}
 
 -- two decimal numbers and a line feed
@@ -15,3 +17,9 @@ refusedText number place =
 -- the most bytes of the line
 abbrev pub lineSize : ℕ
 lineSize = 30
+
+-- a text is in the front of a buffer: the first n bytes. `counted` follows from the other two; with it, a program that writes these bytes needs no proof
+pub record Put (text buffer : List ℕ) (n : ℕ) : Type 0 where
+  pub inside : n ≤ length buffer
+  pub counted : n ≡ length (take n buffer)
+  pub bytes : take n buffer ≡ text

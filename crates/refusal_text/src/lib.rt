@@ -1,9 +1,8 @@
 // The line that a program prints if a call is refused: `REFUSED`, the number and the place. `trace_text` puts it for `trace` and `interpret`; the
 // programs `assemble` and `list` write it by itself. specs/Refused.antt defines it.
 ghost use mathlib.Core.Path.{_≡_};
-ghost use lib.ListN.{length};
 ghost use Rattle.digits.specs.Text.{lineAt, puts};
-ghost use Rattle.refusal_text.specs.Refused.{numbersText, refusedText};
+ghost use Rattle.refusal_text.specs.Refused.{Put, numbersText, refusedText};
 
 // Room for the longest line: 8 bytes of the word and its space, two numbers of at most 10 digits, a space between them and the line feed.
 pub const LINE_SIZE: usize = 30;
@@ -26,9 +25,9 @@ pub fn put_refusal(text: &mut [u8], number: u32, place: u32) -> usize
     put_numbers(text, a, number, place)
 }
 
-// The buffer has room for the whole line.
+// Puts the whole line, for which the buffer has room, and returns its length.
 pub fn put_whole(line: &mut [u8; LINE_SIZE], number: u32, place: u32) -> usize
-    ensures { λ r. ⌜ (r ≡ length (refusedText number place)) × (lineAt (now (line .exit)) r ≡ puts (refusedText number place) (lineAt (now (line .entry)) 0)) ⌝ }
+    ensures { λ r. ⌜ Put (refusedText number place) (now (line .exit)) r ⌝ }
 {
     put_refusal(line, number, place)
 }
