@@ -2,6 +2,7 @@
 use Prim.Native.Nat.{ℕ, _%_}
 use mathlib.Core.Bool.{Bool, false, cond}
 use lib.ListN.{replicate}
+use Rattle.assembler.specs.declared.AssembleResult.{AssembleResult}
 use Rattle.compiler.specs.declared.CompileResult.{CompileResult}
 use Rattle.device.specs.Device.{outputsOf}
 use Rattle.device.specs.Single.{noOutputs}
@@ -10,13 +11,16 @@ use Rattle.device.specs.declared.Outputs.{Outputs}
 use Rattle.device.specs.declared.single.AccessReply.{AccessReply}
 use Rattle.device.specs.declared.single.EventReply.{EventReply}
 use Rattle.interpreter.specs.declared.InterpretResult.{InterpretResult}
+use Rattle.lister.specs.declared.ListResult.{ListResult}
 use Rattle.outcome.specs.declared.Refusal.{Refusal}
 use Rattle.sequencer.specs.Run.{isRefusal}
 use Rattle.sequencer.specs.declared.RunResult.{RunResult}
 use Rattle.step.specs.Sequencer.{counterCount}
 use Rattle.step.specs.declared.Sequencer.{Sequencer}
 use Rattle.runnelopal.specs.declared.answer.AccessAnswer.{AccessAnswer}
+use Rattle.runnelopal.specs.declared.answer.AssembleAnswer.{AssembleAnswer}
 use Rattle.runnelopal.specs.declared.answer.CompileAnswer.{CompileAnswer}
+use Rattle.runnelopal.specs.declared.answer.ListAnswer.{ListAnswer}
 use Rattle.runnelopal.specs.declared.answer.OutputLevels.{OutputLevels}
 use Rattle.runnelopal.specs.declared.answer.OutputsAnswer.{OutputsAnswer}
 use Rattle.runnelopal.specs.declared.answer.RunAnswer.{RunAnswer}
@@ -31,6 +35,13 @@ levelsUnlessRefused outcome d = cond (isRefusal outcome) (levels noOutputs) (lev
 
 abbrev pub exportedCompile : CompileResult → CompileAnswer
 exportedCompile r = record { refusal = r .refusal; place = r .place; words = r .words }
+
+-- a text script that is read, and a script that is listed
+abbrev pub exportedAssemble : AssembleResult → AssembleAnswer
+exportedAssemble r = record { refusal = r .refusal; place = r .place; records = r .records }
+
+abbrev pub exportedList : ListResult → ListAnswer
+exportedList r = record { refusal = r .refusal; place = r .place; length = r .length }
 
 -- a run, and a script that is interpreted
 abbrev pub exportedRun : RunResult → RunAnswer

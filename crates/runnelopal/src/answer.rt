@@ -38,6 +38,22 @@ pub struct CompileAnswer {
     pub words: u32,
 }
 
+// `refusal` is 0 if the text script was read into `records` records. The place is the number of a line.
+#[repr(C)]
+pub struct AssembleAnswer {
+    pub refusal: u32,
+    pub place: usize,
+    pub records: usize,
+}
+
+// `refusal` is 0 if the listing, of `length` bytes, was written.
+#[repr(C)]
+pub struct ListAnswer {
+    pub refusal: u32,
+    pub place: u32,
+    pub length: usize,
+}
+
 // `outcome` is the ending of a run or the number of a refusal, `place` the place of a refusal, 0 for an ending. After a refusal all other
 // numbers are 0, and the outputs false.
 #[repr(C)]

@@ -5,21 +5,25 @@ mod runs;
 
 use access::Access;
 use answer::AccessAnswer;
+use answer::AssembleAnswer;
 use answer::CompileAnswer;
+use answer::ListAnswer;
 use answer::OutputsAnswer;
 use answer::RunAnswer;
 use answer::SequencerAnswer;
 use device::Device;
 use step::Sequencer;
 ghost use mathlib.Core.Path.{_≡_};
+ghost use Rattle.assembler.specs.Assemble.{assembleResult, recordsAfter};
 ghost use Rattle.compiler.specs.Compile.{compileResult, imageAfter};
 ghost use Rattle.device.specs.Device.{freshDevice};
+ghost use Rattle.lister.specs.Listing.{listResult, textAfter};
 ghost use Rattle.log.specs.Entry.{entryOwner, entryValue};
 ghost use Rattle.sequencer_state.specs.State as sequencerState;
 ghost use Rattle.state.specs.Call.{savedAccess, bytesAfterAccess, savedEvent, bytesAfterEvent};
 ghost use Rattle.state.specs.State as deviceState;
 ghost use Rattle.step.specs.Sequencer.{freshSequencer};
-ghost use Rattle.runnelopal.specs.Answers.{exportedAccess, exportedCompile, exportedEvent};
+ghost use Rattle.runnelopal.specs.Answers.{exportedAccess, exportedAssemble, exportedCompile, exportedEvent, exportedList};
 ghost use Rattle.runnelopal.specs.Calls.{
   accessOf,
   afterInterpret,
@@ -42,6 +46,32 @@ pub extern "C" fn runnelopal_raw_compile(script: &[u8], image: &mut [u8]) -> Com
         refusal: r.refusal,
         place: r.place,
         words: r.words,
+    }
+}
+
+// Reads a text script into the record buffer.
+#[no_mangle]
+pub extern "C" fn runnelopal_raw_assemble(text: &[u8], records: &mut [u8]) -> AssembleAnswer
+    ensures { λ r. ⌜ (r ≡ exportedAssemble (assembleResult (now (text .entry)) (now (records .entry)))) × (now (records .exit) ≡ recordsAfter (now (text .entry)) (now (records .entry))) ⌝ }
+{
+    let r = assembler::assemble(text, records);
+    AssembleAnswer {
+        refusal: r.refusal,
+        place: r.place,
+        records: r.records,
+    }
+}
+
+// Writes the listing of a script to the text buffer.
+#[no_mangle]
+pub extern "C" fn runnelopal_raw_list(script: &[u8], text: &mut [u8]) -> ListAnswer
+    ensures { λ r. ⌜ (r ≡ exportedList (listResult (now (script .entry)) (now (text .entry)))) × (now (text .exit) ≡ textAfter (now (script .entry)) (now (text .entry))) ⌝ }
+{
+    let r = lister::list(script, text);
+    ListAnswer {
+        refusal: r.refusal,
+        place: r.place,
+        length: r.length,
     }
 }
 
