@@ -90,8 +90,7 @@ fn task(arguments: &[String]) -> Option<Task> {
     })
 }
 
-fn run(task: Task) -> io::Result<ExitCode> {
-    let mut code = ExitCode::SUCCESS;
+fn run(task: Task) -> io::Result<()> {
     let mut output = BufWriter::with_capacity(BUFFER_BYTES, io::stdout().lock());
     match task {
         Task::Answer => {
@@ -111,13 +110,9 @@ fn run(task: Task) -> io::Result<ExitCode> {
             let written = program(&input);
             output.write_all(&written.output)?;
             io::stderr().write_all(&written.errors)?;
-            if written.refused {
-                code = ExitCode::FAILURE;
-            }
         }
     }
-    output.flush()?;
-    Ok(code)
+    output.flush()
 }
 
 fn main() -> ExitCode {
@@ -131,7 +126,7 @@ fn main() -> ExitCode {
         return ExitCode::from(2);
     };
     match run(task) {
-        Ok(code) => code,
+        Ok(()) => ExitCode::SUCCESS,
         Err(error) => {
             let _ = writeln!(io::stderr(), "reference: {error}");
             ExitCode::FAILURE

@@ -6,12 +6,15 @@ use crate::text::{self, Fault};
 /// `assemble` reads a text into a buffer for this many records.
 const ASSEMBLED_RECORDS: usize = 8_192;
 
-/// What a program writes. Its exit status is 1 if there was a refusal, otherwise 0.
+/// `assemble` takes no longer text than this.
+const TEXT_BYTES: usize = 262_144;
+
+/// What a program writes on standard output and standard error. One of the two is empty. The exit
+/// status is always 0.
 #[derive(Clone, Debug, PartialEq, Eq)]
 pub struct Written {
     pub output: Vec<u8>,
     pub errors: Vec<u8>,
-    pub refused: bool,
 }
 
 impl Written {
@@ -19,23 +22,33 @@ impl Written {
         Written {
             output,
             errors: Vec::new(),
-            refused: false,
+        }
+    }
+
+    fn failed(line: String) -> Self {
+        Written {
+            output: Vec::new(),
+            errors: line.into_bytes(),
         }
     }
 
     fn refused(refusal: text::Refusal) -> Self {
-        let line = format!("REFUSED {} {}\n", refusal.fault.number(), refusal.place);
-        Written {
-            output: Vec::new(),
-            errors: line.into_bytes(),
-            refused: true,
-        }
+        Written::failed(format!(
+            "REFUSED {} {}\n",
+            refusal.fault.number(),
+            refusal.place
+        ))
     }
 }
 
 /// Writes the records of a text. If a line is bad, that line is quoted after the refusal, with its
 /// carriage return if it has one.
 pub fn assemble(text: &[u8]) -> Written {
+    if text.len() > TEXT_BYTES {
+        return Written::failed(format!(
+            "assemble: the text has more than {TEXT_BYTES} bytes\n"
+        ));
+    }
     let mut buffer = vec![0; ASSEMBLED_RECORDS * RECORD_BYTES];
     match text::read(text, &mut buffer) {
         Ok(records) => {

@@ -983,11 +983,11 @@ fn malformed_commands() {
 fn programs() {
     let assembled = text_programs::assemble(b"end\r\n");
     assert_eq!(assembled.output, encode(&[end()]));
-    assert!(assembled.errors.is_empty() && !assembled.refused);
+    assert!(assembled.errors.is_empty());
     let bad: &[u8] = b"end\n\n delay 1 \xFF\r\nend";
     let refused = text_programs::assemble(bad);
     assert_eq!(refused.errors, b"REFUSED 31 2\n delay 1 \xFF\r\n");
-    assert!(refused.output.is_empty() && refused.refused);
+    assert!(refused.output.is_empty());
     let refused = text_programs::assemble(b"delay 65536");
     assert_eq!(refused.errors, b"REFUSED 32 0\ndelay 65536\n");
     let long = [b'c'; 121];
@@ -1000,12 +1000,20 @@ fn programs() {
     assert_eq!(most.output.len(), 8_192 * RECORD_BYTES);
     let refused = text_programs::assemble(&b"end\n".repeat(8_193));
     assert_eq!(refused.errors, b"REFUSED 33 0\n");
+    let longest = text_programs::assemble(&b";12\n".repeat(65_536));
+    assert!(longest.output.is_empty() && longest.errors.is_empty());
+    let too_long = text_programs::assemble(&vec![b'\n'; 262_145]);
+    assert_eq!(
+        too_long.errors,
+        b"assemble: the text has more than 262144 bytes\n"
+    );
+    assert!(too_long.output.is_empty());
     let listed = text_programs::list(&encode(&[end()]));
     assert_eq!(listed.output, b"end\n");
-    assert!(listed.errors.is_empty() && !listed.refused);
+    assert!(listed.errors.is_empty());
     let refused = text_programs::list(&encode(&[end(), record(0, 0, 0, 0)]));
     assert_eq!(refused.errors, b"REFUSED 3 1\n");
-    assert!(refused.output.is_empty() && refused.refused);
+    assert!(refused.output.is_empty());
 }
 
 /// The programs have limits of their own, which the random inputs stay below.

@@ -10,28 +10,19 @@ use lib.Seq.{drop-cons, getD-take}
 use Rattle.digits.proofs.Puts.{decimal-length, puts-both, puts-whole}
 use Rattle.digits.specs.Text.{Line, decimalText, hexText, lineAt, put, puts}
 use Rattle.log.specs.Entry.{entryOwner, entryValue, logEntry}
+use Rattle.refusal_text.proofs.Line.{numbers-length}
+use Rattle.refusal_text.specs.Refused.{refusedText}
 use Rattle.sequencer.specs.Run.{isRefusal}
 use Rattle.trace_text.specs.declared.Summary.{Summary}
 use Rattle.trace_text.specs.Printed.{
   endText,
   logSize,
-  numbersText,
   printed,
   readText,
   readsText,
-  refusedText,
   textSize,
   unlockText,
 }
-
--- two numbers put one after the other are the text of both
-pub numbers-put : (first second : ℕ) (l : Line)
-    → put 0x0A (puts (decimalText second) (put 0x20 (puts (decimalText first) l))) ≡ puts (numbersText first second) l
-numbers-put first second l =
-    sym (
-    puts-both (decimalText first) (0x20 ∷ (decimalText second ++ (0x0A ∷ []))) l
-    ∙ puts-both (decimalText second) (0x0A ∷ []) (put 0x20 (puts (decimalText first) l))
-    )
 
 -- the pieces of a line, put one after the other, are the text of the line
 pub pieces-put : (entry v o : ℕ) (l : Line) → v ≡ entryValue entry → o ≡ entryOwner entry
@@ -109,14 +100,6 @@ reads-length (e ∷ es) =
     let r = read-length e in
     let h = reads-length es in
     omega (arith, a, r, h)
-
-numbers-length : (first second : ℕ) → length (numbersText first second) ≤ 22
-numbers-length first second =
-    let a = length-append (decimalText first) (0x20 ∷ (decimalText second ++ (0x0A ∷ []))) in
-    let b = length-append (decimalText second) (0x0A ∷ []) in
-    let f = decimal-length first in
-    let s = decimal-length second in
-    omega (arith, a, b, f, s)
 
 printed-length : (r : Summary) (log : List ℕ) → length log ≤ logSize → length (printed r log) ≤ textSize
 printed-length r log h = pick (isRefusal (r .outcome))

@@ -5,6 +5,7 @@ use mathlib.Core.List.{List, [], _∷_, _++_}
 use lib.ListN.{take}
 use Rattle.digits.specs.Text.{decimalText, hexText}
 use Rattle.log.specs.Entry.{entryOwner, entryValue}
+use Rattle.refusal_text.specs.Refused.{numbersText, refusedText}
 use Rattle.sequencer.specs.Run.{isRefusal}
 use Rattle.trace_text.specs.declared.Summary.{Summary}
 
@@ -18,20 +19,11 @@ abbrev pub readsText : List ℕ → List ℕ
 readsText [] = []
 readsText (e ∷ es) = readText e ++ readsText es
 
--- two decimal numbers and a line feed
-abbrev pub numbersText : ℕ → ℕ → List ℕ
-numbersText first second = decimalText first ++ (0x20 ∷ (decimalText second ++ (0x0A ∷ [])))
-
 -- "then `END`, outcome, steps"
 abbrev pub endText : ℕ → ℕ → List ℕ
 endText outcome steps = 0x45 ∷ 0x4E ∷ 0x44 ∷ 0x20 ∷ numbersText outcome steps
 
--- "or only `REFUSED`, number, place (decimal)"
-abbrev pub refusedText : ℕ → ℕ → List ℕ
-refusedText number place =
-    0x52 ∷ 0x45 ∷ 0x46 ∷ 0x55 ∷ 0x53 ∷ 0x45 ∷ 0x44 ∷ 0x20 ∷ numbersText number place
-
--- the whole text: of the first entries, as many as were logged, and of the ending
+-- the whole text: of the first entries, as many as were logged, and of the ending; "or only `REFUSED`, number, place (decimal)"
 abbrev pub printed : Summary → List ℕ → List ℕ
 printed r log =
     cond (isRefusal (r .outcome)) (refusedText (r .outcome) (r .place))

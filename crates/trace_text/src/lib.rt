@@ -3,7 +3,7 @@
 ghost use mathlib.Core.Path.{_≡_};
 ghost use lib.ListN.{length, take};
 ghost use Rattle.digits.specs.Text.{lineAt, puts};
-ghost use Rattle.trace_text.specs.Printed.{readText, readsText, numbersText, endText, refusedText, printed, logSize, textSize};
+ghost use Rattle.trace_text.specs.Printed.{readText, readsText, endText, printed, logSize, textSize};
 
 // The numbers of an answer that the text shows. `outcome` is the ending or the number of a refusal, `place` the place of a refusal.
 pub struct Summary {
@@ -38,28 +38,11 @@ fn put_reads(text: &mut [u8], log: &[u64], logged: usize) -> usize
     next
 }
 
-// Puts two decimal numbers and a line feed.
-fn put_numbers(text: &mut [u8], at: usize, first: u32, second: u32) -> usize
-    ensures { λ r. ⌜ lineAt (now (text .exit)) r ≡ puts (numbersText first second) (lineAt (now (text .entry)) at) ⌝ }
-{
-    let a = digits::put_decimal(text, at, first);
-    let b = digits::put(text, a, b' ');
-    let c = digits::put_decimal(text, b, second);
-    digits::put(text, c, b'\n')
-}
-
-fn put_refusal(text: &mut [u8], number: u32, place: u32) -> usize
-    ensures { λ r. ⌜ lineAt (now (text .exit)) r ≡ puts (refusedText number place) (lineAt (now (text .entry)) 0) ⌝ }
-{
-    let a = digits::put_text(text, 0, b"REFUSED ");
-    put_numbers(text, a, number, place)
-}
-
 fn put_end(text: &mut [u8], outcome: u32, steps: u32, at: usize) -> usize
     ensures { λ r. ⌜ lineAt (now (text .exit)) r ≡ puts (endText outcome steps) (lineAt (now (text .entry)) at) ⌝ }
 {
     let a = digits::put_text(text, at, b"END ");
-    put_numbers(text, a, outcome, steps)
+    refusal_text::put_numbers(text, a, outcome, steps)
 }
 
 // Puts the whole text and returns its length.
@@ -67,7 +50,7 @@ fn put_result(text: &mut [u8], summary: Summary, log: &[u64]) -> usize
     ensures { λ r. ⌜ lineAt (now (text .exit)) r ≡ puts (printed summary (now (log .entry))) (lineAt (now (text .entry)) 0) ⌝ }
 {
     if sequencer::is_refusal(summary.outcome) {
-        return put_refusal(text, summary.outcome, summary.place);
+        return refusal_text::put_refusal(text, summary.outcome, summary.place);
     }
     let at = put_reads(text, log, summary.logged);
     put_end(text, summary.outcome, summary.steps, at)

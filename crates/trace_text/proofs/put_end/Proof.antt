@@ -1,7 +1,7 @@
 -- `put_end` puts `endText`: the word END and then the two numbers.
 use mathlib.Core.Path.{ap, _∙_}
 use Rattle.digits.specs.Text.{puts}
-use Rattle.trace_text.specs.Printed.{numbersText}
+use Rattle.refusal_text.specs.Refused.{numbersText}
 use borrow.Author.Needs.{needs}
 use Rattle.trace_text.proofs.put_end.Statement.{statement}
 use Rattle.trace_text.proofs.put_end.Tie as tie

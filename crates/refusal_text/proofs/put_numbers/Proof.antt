@@ -1,10 +1,10 @@
 -- `put_numbers` puts `numbersText`, piece by piece.
 use mathlib.Core.Path.{ap, _∙_}
 use Rattle.digits.specs.Text.{decimalText, put, puts}
-use Rattle.trace_text.proofs.Lines.{numbers-put}
+use Rattle.refusal_text.proofs.Line.{numbers-put}
 use borrow.Author.Needs.{needs}
-use Rattle.trace_text.proofs.put_numbers.Statement.{statement}
-use Rattle.trace_text.proofs.put_numbers.Tie as tie
+use Rattle.refusal_text.proofs.put_numbers.Statement.{statement}
+use Rattle.refusal_text.proofs.put_numbers.Tie as tie
 
 put-decimal-requires : tie.Need-put-decimal-requires
 put-decimal-requires c κs = search needs

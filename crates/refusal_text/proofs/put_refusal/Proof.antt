@@ -1,10 +1,10 @@
 -- `put_refusal` puts `refusedText`: the word REFUSED and then the two numbers.
 use mathlib.Core.Path.{ap, _∙_}
 use Rattle.digits.specs.Text.{puts}
-use Rattle.trace_text.specs.Printed.{numbersText}
+use Rattle.refusal_text.specs.Refused.{numbersText}
 use borrow.Author.Needs.{needs}
-use Rattle.trace_text.proofs.put_refusal.Statement.{statement}
-use Rattle.trace_text.proofs.put_refusal.Tie as tie
+use Rattle.refusal_text.proofs.put_refusal.Statement.{statement}
+use Rattle.refusal_text.proofs.put_refusal.Tie as tie
 
 slice-aggregate-put-text : tie.Need-slice-aggregate-put-text
 slice-aggregate-put-text c = search needs
