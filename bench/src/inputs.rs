@@ -3,11 +3,15 @@
 use reference::compiler::{self, Record, DELAY, ELSE, END, IF, READ, REPEAT, WRITE};
 use reference::sequencer::{self, Lent, Sequencer};
 use reference::state::{self, StateBytes};
+use reference::text;
 
 use crate::work::Access;
 
 /// With this many records a script compiles to 1,024 words, the halt included.
 pub const MOST_RECORDS: usize = 1_023;
+
+/// The most records that a script can have.
+pub const MOST_LISTED: usize = 1_024;
 
 const INDEX: u16 = 0x002E;
 const DATA: u16 = 0x002F;
@@ -140,6 +144,45 @@ pub fn many_ifs(records: usize) -> Vec<u8> {
         script.end();
     }
     script.filled(records)
+}
+
+// ---- scripts to list, and texts to read
+
+/// Records of every kind, in blocks up to two deep, all of them closed.
+pub fn mixture(records: usize) -> Vec<u8> {
+    let mut script = Script::default();
+    let mut writes = set_up_list().into_iter().cycle();
+    let mut reads = read_list().into_iter().cycle();
+    let mut write = |script: &mut Script| script.write(writes.next().expect("the list is not empty"));
+    let mut read = |script: &mut Script| script.read(reads.next().expect("the list is not empty"));
+    let size = 16;
+    for turn in 0..(records / size) as u32 {
+        (0..4).for_each(|_| write(&mut script));
+        read(&mut script);
+        script.delay(turn * 1_009);
+        script.repeat(turn);
+        script.branch(2, PM1_STATUS, 1 << (turn % 16));
+        write(&mut script);
+        script.otherwise();
+        read(&mut script);
+        script.end();
+        script.branch(4, TIMER, turn << 20);
+        script.delay(turn % 10);
+        script.end();
+        script.end();
+    }
+    script.filled(records)
+}
+
+/// The text as the lister writes it.
+pub fn listing(script: &[u8]) -> Vec<u8> {
+    text::listing(script).expect("the script is valid")
+}
+
+/// The same text with a comment after every statement, and with carriage returns.
+pub fn commented(script: &[u8]) -> Vec<u8> {
+    let lines = String::from_utf8(listing(script)).expect("a listing is ASCII");
+    lines.lines().flat_map(|line| format!("{line:32} ; what this statement does, and why\r\n").into_bytes()).collect()
 }
 
 // ---- scripts to run

@@ -1,6 +1,6 @@
 //! The rows of the table.
 
-use crate::inputs::{self, Script, MOST_RECORDS};
+use crate::inputs::{self, Script, MOST_LISTED, MOST_RECORDS};
 use crate::work::{Done, Held, Work};
 
 #[derive(Clone, Copy, PartialEq, Eq)]
@@ -21,7 +21,8 @@ impl Row {
     /// How many items one repetition has, and what an item is.
     pub fn items(&self, done: &Done) -> (u64, &'static str) {
         match &self.work {
-            Work::Compile { script, times } => ((script.len() / 12 * times) as u64, "record"),
+            Work::Compile { script, times } | Work::List { script, times } => ((script.len() / 12 * times) as u64, "record"),
+            Work::Assemble { times, .. } => (done.numbers[0] * *times as u64, "record"),
             Work::Run { times, .. } | Work::Interpret { times, .. } => (done.numbers[1] * *times as u64, "step"),
             Work::Parts { .. } => (done.numbers[1], "step"),
             Work::Accesses { list, times, .. } => ((list.len() * times) as u64, "access"),
@@ -33,6 +34,8 @@ impl Row {
     pub fn cleared(&self) -> &'static str {
         match self.work {
             Work::Compile { .. } => "image cleared",
+            Work::Assemble { .. } => "records cleared",
+            Work::List { .. } => "text cleared",
             Work::Run { log: 0, .. } | Work::Interpret { log: 0, .. } => "no log",
             Work::Run { .. } | Work::Interpret { .. } => "log cleared",
             Work::Parts { .. } => "no log",
@@ -45,6 +48,7 @@ impl Row {
 pub const FAILED_TEST: &str = "failed test";
 
 const COMPILE: &str = "Compile, 1,023 records";
+const TEXTS: &str = "Text scripts, 1,024 records";
 const RUN: &str = "Runs";
 const INTERPRET: &str = "The interpreter, beside our run of the compiled image and the model's interpreter";
 const PARTS: &str = "Runs in parts: ours load and save the bytes of device and sequencer at each call, theirs keep structs";
@@ -60,6 +64,18 @@ fn compile(group: &'static str, name: &str, script: Vec<u8>, size: Size) -> Row 
         Size::Small => 4,
     };
     Row { group, name: name.to_string(), work: Work::Compile { script, times } }
+}
+
+/// Text scripts, read and listed.
+fn texts(size: Size) -> Vec<Row> {
+    let times = if size == Size::Full { 1_024 } else { 4 };
+    let script = inputs::mixture(MOST_LISTED);
+    let row = |name: &str, work| Row { group: TEXTS, name: format!("texts: {name}"), work };
+    vec![
+        row("reading a listing", Work::Assemble { text: inputs::listing(&script), times }),
+        row("reading it with comments and CR LF", Work::Assemble { text: inputs::commented(&script), times }),
+        row("listing", Work::List { script, times }),
+    ]
 }
 
 fn run(name: &str, script: &Script, log: usize) -> Row {
@@ -141,6 +157,8 @@ pub fn rows(size: Size) -> Vec<Row> {
         compile(COMPILE, "nests of 16 blocks, ifs with elses", inputs::nests(MOST_RECORDS), size),
         compile(COMPILE, "ifs with elses side by side", inputs::many_ifs(MOST_RECORDS), size),
     ];
+
+    rows.extend(texts(size));
 
     let runs = runs(size);
     let interpreted: Vec<Row> = runs.iter().map(|(row, script)| interpret(row, script)).collect();

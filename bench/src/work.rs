@@ -1,5 +1,6 @@
 //! The work of a row, and how each program does it.
 
+use std::fmt::Debug;
 use std::hint::black_box;
 
 use reference::compiler;
@@ -7,6 +8,7 @@ use reference::device::Device;
 use reference::own_run;
 use reference::sequencer::{self, Ended, Lent, Sequencer};
 use reference::state;
+use reference::text;
 
 #[derive(Clone, Copy, Debug, PartialEq, Eq)]
 pub enum Side {
@@ -45,6 +47,10 @@ pub enum Held {
 pub enum Work {
     /// Compiles the script this many times.
     Compile { script: Vec<u8>, times: usize },
+    /// Reads the text script this many times.
+    Assemble { text: Vec<u8>, times: usize },
+    /// Lists the script this many times.
+    List { script: Vec<u8>, times: usize },
     /// Runs the image this many times, each time on a fresh device, from a fresh sequencer.
     Run { image: Vec<u8>, events: Vec<u32>, budget: u32, log: usize, times: usize },
     /// Interprets the script this many times, each time on a fresh device. The third side runs the image.
@@ -59,7 +65,8 @@ pub enum Work {
 /// The buffers that a call writes, besides its answer.
 #[derive(PartialEq, Eq)]
 pub struct Buffers {
-    image: Vec<u8>,
+    /// For the image, the records or the listing.
+    bytes: Vec<u8>,
     log: Vec<u64>,
 }
 
@@ -84,12 +91,14 @@ fn outputs(sci: bool, smi: bool, monitor: bool) -> u64 {
 impl Work {
     /// Cleared buffers. Every byte has been written, so that no page is touched for the first time while measuring.
     pub fn buffers(&self) -> Buffers {
-        let (image, log) = match self {
+        let (bytes, log) = match self {
             Work::Compile { .. } => (runnelopal::IMAGE_BYTES, 0),
+            Work::Assemble { .. } => (runnelopal::SCRIPT_BYTES, 0),
+            Work::List { .. } => (runnelopal::TEXT_BYTES, 0),
             Work::Run { log, .. } | Work::Interpret { log, .. } => (0, *log),
             Work::Parts { .. } | Work::Accesses { .. } | Work::Events { .. } => (0, 0),
         };
-        Buffers { image: vec![0xEE; image], log: vec![0xEEEE_EEEE_EEEE_EEEE; log] }
+        Buffers { bytes: vec![0xEE; bytes], log: vec![0xEEEE_EEEE_EEEE_EEEE; log] }
     }
 
     /// The programs that do the work.
@@ -102,7 +111,14 @@ impl Work {
 
     pub fn done(&self, side: Side, buffers: &mut Buffers) -> Done {
         match (self, side) {
-            (Work::Compile { script, times }, _) => compiled(side, script, *times, &mut buffers.image),
+            (Work::Compile { script, times }, Side::Theirs) => {
+                converted(compiler::compile, script, *times, &mut buffers.bytes)
+            }
+            (Work::Compile { script, times }, _) => converted(runnelopal::compile, script, *times, &mut buffers.bytes),
+            (Work::Assemble { text, times }, Side::Theirs) => converted(text::read, text, *times, &mut buffers.bytes),
+            (Work::Assemble { text, times }, _) => converted(runnelopal::assemble, text, *times, &mut buffers.bytes),
+            (Work::List { script, times }, Side::Theirs) => converted(text::list, script, *times, &mut buffers.bytes),
+            (Work::List { script, times }, _) => converted(runnelopal::list, script, *times, &mut buffers.bytes),
             (Work::Interpret { script, events, budget, times, .. }, Side::Ours) => {
                 our_interpretation(script, events, *budget, &mut buffers.log, *times)
             }
@@ -129,17 +145,15 @@ impl Work {
     }
 }
 
-fn compiled(side: Side, script: &[u8], times: usize, image: &mut [u8]) -> Done {
-    let mut words = 0;
+/// Makes a call that fills the front of a buffer, and returns how much it has written there: words, records or bytes.
+#[inline(always)]
+fn converted<R: Debug>(call: impl Fn(&[u8], &mut [u8]) -> Result<usize, R>, from: &[u8], times: usize, bytes: &mut [u8]) -> Done {
+    let mut count = 0;
     for _ in 0..times {
-        let script = black_box(script);
-        words = match side {
-            Side::Ours | Side::Image => runnelopal::compile(script, image).expect("the script is valid"),
-            Side::Theirs => compiler::compile(script, image).expect("the script is valid"),
-        };
-        black_box(&mut *image);
+        count = call(black_box(from), bytes).expect("the input is valid");
+        black_box(&mut *bytes);
     }
-    Done { numbers: [words as u64, 0, 0, 0], sum: 0, sequencer: None, state: None }
+    Done { numbers: [count as u64, 0, 0, 0], sum: 0, sequencer: None, state: None }
 }
 
 fn our_numbers(run: &runnelopal::Run) -> [u64; 4] {

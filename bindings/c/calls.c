@@ -1,6 +1,8 @@
 /* Tests of every function of runnelopal.h: each refusal with its place and the order of refusals, that a refusal changes nothing, each ending
- * of a run, events and outputs, runs in parts, valid and not valid bytes, null pointers. Prints each check that fails, and the number of
- * checks. Exits with 1 if one fails. tests/calls.rs of bindings/rust makes the same tests of the Rust wrapper. */
+ * of a run, events and outputs, runs in parts, valid and not valid bytes, text scripts and listings, null pointers. Lists each SCRIPT and reads
+ * its listing. Prints each check that fails, and the number of checks. Exits with 1 if one fails. tests/calls.rs of bindings/rust makes the same
+ * tests of the Rust wrapper.
+ * usage: calls [SCRIPT]... */
 #include <inttypes.h>
 #include <stdio.h>
 #include <string.h>
@@ -224,6 +226,122 @@ static void check_refused_compile(lent *all, size_t image_bytes, uint32_t number
     CHECK(memcmp(&before, all, sizeof before) == 0);
 }
 
+/* ---- Text scripts and listings. A call writes to the front of `written`, which is longer than the buffer that the call gets. */
+
+enum { TEXT = 1 << 17, UNWRITTEN = 0xB7 };
+
+static uint8_t text[TEXT], written[TEXT + RECORD];
+static size_t text_bytes;
+
+static void put_bytes(const char *bytes, size_t length)
+{
+    memcpy(text + text_bytes, bytes, length);
+    text_bytes += length;
+}
+
+static void put_text(const char *string)
+{
+    put_bytes(string, strlen(string));
+}
+
+static void put_times(size_t times, char byte)
+{
+    memset(text + text_bytes, byte, times);
+    text_bytes += times;
+}
+
+static void set_text(const char *string)
+{
+    item++;
+    text_bytes = 0;
+    put_text(string);
+}
+
+static runnelopal_assemble_answer assemble(size_t record_bytes)
+{
+    memset(written, UNWRITTEN, sizeof written);
+    return runnelopal_assemble(text, text_bytes, written, record_bytes);
+}
+
+/* The text is refused, whatever the length of the record buffer. */
+static void check_refused_text(uint32_t number, size_t place)
+{
+    static const size_t lengths[] = {TEXT, RECORD, 0};
+    for (size_t k = 0; k < sizeof lengths / sizeof *lengths; k++) {
+        runnelopal_assemble_answer answer = assemble(lengths[k]);
+        CHECK(answer.refusal == number && answer.place == place && answer.records == 0);
+        CHECK(filled(written, sizeof written, UNWRITTEN));
+    }
+}
+
+/* The text is read into these records, if the buffer has room for them. */
+static void check_assembled(const uint8_t *expected, size_t length)
+{
+    const size_t lengths[] = {length, length + 1, length + RECORD, TEXT};
+    for (size_t k = 0; k < sizeof lengths / sizeof *lengths; k++) {
+        runnelopal_assemble_answer answer = assemble(lengths[k]);
+        CHECK(answer.refusal == 0 && answer.place == 0 && answer.records == length / RECORD);
+        CHECK(memcmp(written, expected, length) == 0);
+        CHECK(filled(written + length, sizeof written - length, UNWRITTEN));
+    }
+    for (size_t less = 1; less <= length && less <= RECORD + 1; less++) {
+        runnelopal_assemble_answer answer = assemble(length - less);
+        CHECK(answer.refusal == RUNNELOPAL_RECORDS_TOO_SHORT && answer.place == 0 && answer.records == 0);
+        CHECK(filled(written, sizeof written, UNWRITTEN));
+    }
+}
+
+static runnelopal_list_answer list(const records *script, size_t length)
+{
+    memset(written, UNWRITTEN, sizeof written);
+    return runnelopal_list(script->bytes, script->length, written, length);
+}
+
+/* The lister refuses the script, whatever the length of the text buffer. */
+static void check_refused_listing(const records *script, uint32_t number, uint32_t place)
+{
+    static const size_t lengths[] = {TEXT, 1, 0};
+    for (size_t k = 0; k < sizeof lengths / sizeof *lengths; k++) {
+        runnelopal_list_answer answer = list(script, lengths[k]);
+        CHECK(answer.refusal == number && answer.place == place && answer.length == 0);
+        CHECK(filled(written, sizeof written, UNWRITTEN));
+    }
+}
+
+/* `text` is the listing of the script, if the buffer has room for it. Reading it gives the script. */
+static void check_listed(const records *script)
+{
+    const size_t lengths[] = {text_bytes, text_bytes + 1, TEXT};
+    for (size_t k = 0; k < sizeof lengths / sizeof *lengths; k++) {
+        runnelopal_list_answer answer = list(script, lengths[k]);
+        CHECK(answer.refusal == 0 && answer.place == 0 && answer.length == text_bytes);
+        CHECK(memcmp(written, text, text_bytes) == 0);
+        CHECK(filled(written + text_bytes, sizeof written - text_bytes, UNWRITTEN));
+    }
+    for (size_t less = 1; less <= text_bytes && less <= 40; less++) {
+        runnelopal_list_answer answer = list(script, text_bytes - less);
+        CHECK(answer.refusal == RUNNELOPAL_TEXT_TOO_SHORT && answer.place == 0 && answer.length == 0);
+        CHECK(filled(written, sizeof written, UNWRITTEN));
+    }
+    check_assembled(script->bytes, script->length);
+}
+
+/* Lists a script and reads the listing. The lister refuses what the compiler refuses with 1 to 4. */
+static void check_round_trip(const records *script)
+{
+    static uint8_t image[RUNNELOPAL_IMAGE_BYTES];
+    runnelopal_compile_answer compiled = runnelopal_compile(script->bytes, script->length, image, sizeof image);
+    if (RUNNELOPAL_BAD_LENGTH <= compiled.refusal && compiled.refusal <= RUNNELOPAL_BAD_FIELD) {
+        check_refused_listing(script, compiled.refusal, compiled.place);
+        return;
+    }
+    runnelopal_list_answer answer = list(script, RUNNELOPAL_TEXT_BYTES);
+    CHECK(answer.refusal == 0 && answer.length <= RUNNELOPAL_TEXT_BYTES);
+    memcpy(text, written, answer.length);
+    text_bytes = answer.length;
+    check_listed(script);
+}
+
 /* Every call on a device refuses it with 11. */
 static void check_bad_device(lent *all)
 {
@@ -295,6 +413,13 @@ static void check_script(lent *call, uint32_t number, uint32_t place)
     check_refused_interpretation(call, number, place);
 }
 
+/* A script that the compiler refuses with 5 to 8 has a listing. */
+static void check_blocks(lent *call, uint32_t number, uint32_t place)
+{
+    check_script(call, number, place);
+    check_round_trip(&call->script);
+}
+
 static void script_lengths(void)
 {
     static const size_t lengths[] = {1, 11, 13, RECORD * MOST - 1, RECORD * MOST + 1, RECORD * MOST + RECORD};
@@ -303,6 +428,7 @@ static void script_lengths(void)
         memset(all.script.bytes, 0, sizeof all.script.bytes); /* the length comes before the marks */
         all.script.length = lengths[k];
         check_script(&all, RUNNELOPAL_BAD_LENGTH, 0);
+        check_refused_listing(&all.script, RUNNELOPAL_BAD_LENGTH, 0);
     }
 }
 
@@ -316,6 +442,11 @@ static void record_fault(uint32_t mark, uint32_t kind, uint32_t width, uint32_t 
     put(&all.script, mark, kind, width, port, target, value);
     put(&all.script, 0, 0, 3, 0, 1, 1);
     check_script(&all, number, 2);
+    /* The lister does not check blocks, so it goes on to record 3. */
+    if (number == RUNNELOPAL_MISPLACED)
+        check_refused_listing(&all.script, RUNNELOPAL_WRONG_MARK, 3);
+    else
+        check_refused_listing(&all.script, number, 2);
 }
 
 static void record_faults(void)
@@ -347,33 +478,33 @@ static void blocks(void)
     all.script.length = 0;
     record(&all.script, RUNNELOPAL_SCRIPT_REPEAT, 0, 0, 1);
     record(&all.script, RUNNELOPAL_SCRIPT_ELSE, 0, 0, 0);
-    check_script(&all, RUNNELOPAL_MISPLACED, 1);
+    check_blocks(&all, RUNNELOPAL_MISPLACED, 1);
 
     busy(&all); /* a second else */
     all.script.length = 0;
     record(&all.script, RUNNELOPAL_SCRIPT_IF, 1, 0, 1);
     record(&all.script, RUNNELOPAL_SCRIPT_ELSE, 0, 0, 0);
     record(&all.script, RUNNELOPAL_SCRIPT_ELSE, 0, 0, 0);
-    check_script(&all, RUNNELOPAL_MISPLACED, 2);
+    check_blocks(&all, RUNNELOPAL_MISPLACED, 2);
 
     busy(&all);
     all.script.length = 0;
     for (int k = 0; k < 17; k++)
         record(&all.script, RUNNELOPAL_SCRIPT_IF, 1, 0, 1);
-    check_script(&all, RUNNELOPAL_TOO_DEEP, 16);
+    check_blocks(&all, RUNNELOPAL_TOO_DEEP, 16);
 
     busy(&all);
     all.script.length = 0;
     for (int k = 0; k < 9; k++)
         record(&all.script, RUNNELOPAL_SCRIPT_REPEAT, 0, 0, 1);
-    check_script(&all, RUNNELOPAL_TOO_DEEP, 8);
+    check_blocks(&all, RUNNELOPAL_TOO_DEEP, 8);
 
     busy(&all);
     all.script.length = 0;
     read_record(&all.script, 1, 0);
     record(&all.script, RUNNELOPAL_SCRIPT_IF, 1, 0, 1);
     read_record(&all.script, 1, 0);
-    check_script(&all, RUNNELOPAL_STILL_OPEN, 3);
+    check_blocks(&all, RUNNELOPAL_STILL_OPEN, 3);
 }
 
 static void words(void)
@@ -382,7 +513,7 @@ static void words(void)
     all.script.length = 0;
     for (int k = 0; k < MOST; k++)
         write_record(&all.script, 1, 0x2E, 0x55);
-    check_script(&all, RUNNELOPAL_TOO_MANY_WORDS, MOST);
+    check_blocks(&all, RUNNELOPAL_TOO_MANY_WORDS, MOST);
 
     busy(&all);
     all.script.length = 0;
@@ -877,6 +1008,347 @@ static void counters(void)
     CHECK(open.refusal == 0 && open.place == 3 && open.used == 2 && open.counters[0] == 2 && open.counters[1] == 2 && open.counters[2] == 0);
 }
 
+/* A text of one line, as it is, with LF, with CR and with both. */
+static void check_line(const char *line, const records *expected)
+{
+    static const char *const ends[] = {"", "\n", "\r", "\r\n", "\n\n", "\n \t\r\n;"};
+    for (size_t k = 0; k < sizeof ends / sizeof *ends; k++) {
+        set_text(line);
+        put_text(ends[k]);
+        check_assembled(expected->bytes, expected->length);
+    }
+}
+
+static void statement(const char *line, uint32_t kind, uint32_t width, uint32_t port, uint32_t value)
+{
+    static const char *const around[][2] = {{"", ""}, {" ", "\t"}, {"\t  \t", ";"}, {"", "   ; \xC3\xBC \r ; write"}};
+    records expected = {{0}, 0};
+    record(&expected, kind, width, port, value);
+    for (size_t k = 0; k < sizeof around / sizeof *around; k++) {
+        char whole[RUNNELOPAL_LINE_BYTES];
+        snprintf(whole, sizeof whole, "%s%s%s", around[k][0], line, around[k][1]);
+        check_line(whole, &expected);
+    }
+}
+
+static void statements(void)
+{
+    statement("write 1 2Eh 55h", RUNNELOPAL_SCRIPT_WRITE, 1, 0x2E, 0x55);
+    statement("write 01h 46 085", RUNNELOPAL_SCRIPT_WRITE, 1, 0x2E, 0x55);
+    statement("write \t 2   AC08h\t\tFFFFh", RUNNELOPAL_SCRIPT_WRITE, 2, 0xAC08, 0xFFFF);
+    statement("write 4 65535 4294967295", RUNNELOPAL_SCRIPT_WRITE, 4, 0xFFFF, 0xFFFFFFFF);
+    statement("write 4 0ffffH 0aBcDeF1h", RUNNELOPAL_SCRIPT_WRITE, 4, 0xFFFF, 0x0ABCDEF1);
+    statement("read 1 2fh", RUNNELOPAL_SCRIPT_READ, 1, 0x2F, 0);
+    statement("read 2 0", RUNNELOPAL_SCRIPT_READ, 2, 0, 0);
+    statement("read 4 AC18H", RUNNELOPAL_SCRIPT_READ, 4, 0xAC18, 0);
+    statement("delay 0", RUNNELOPAL_SCRIPT_DELAY, 0, 0, 0);
+    statement("delay 65535", RUNNELOPAL_SCRIPT_DELAY, 0, 0, 65535);
+    statement("delay 10h", RUNNELOPAL_SCRIPT_DELAY, 0, 0, 16);
+    statement("repeat 000000000000000000003", RUNNELOPAL_SCRIPT_REPEAT, 0, 0, 3);
+    statement("repeat ffffh", RUNNELOPAL_SCRIPT_REPEAT, 0, 0, 65535);
+    statement("if 1 AC08h 255", RUNNELOPAL_SCRIPT_IF, 1, 0xAC08, 255);
+    statement("if 2 44040 1", RUNNELOPAL_SCRIPT_IF, 2, 0xAC08, 1);
+    statement("if 4 0h 80000000h", RUNNELOPAL_SCRIPT_IF, 4, 0, 0x80000000);
+    statement("else", RUNNELOPAL_SCRIPT_ELSE, 0, 0, 0);
+    statement("end", RUNNELOPAL_SCRIPT_END, 0, 0, 0);
+
+    /* The text of docs/TEXT.md. Blocks are not checked: a lone end is read too. */
+    set_text("; Unlocks the configuration, and reads key control.\n"
+             "write 1 2Eh 55h         ; the key that unlocks\n"
+             "write 1 2Eh F2h         ; the index of key control\n"
+             "read  1 2Fh\n"
+             "repeat 3\n"
+             "    delay 1000\n"
+             "    if 2 AC08h 0001h    ; has the timer's bit 23 changed?\n"
+             "        write 2 AC08h 0001h\n"
+             "    else\n"
+             "        read 4 AC18h\n"
+             "    end\n"
+             "end\n"
+             "end");
+    records expected = {{0}, 0};
+    write_record(&expected, 1, CONFIGURATION, 0x55);
+    write_record(&expected, 1, CONFIGURATION, 0xF2);
+    read_record(&expected, 1, CONFIGURATION + 1);
+    record(&expected, RUNNELOPAL_SCRIPT_REPEAT, 0, 0, 3);
+    record(&expected, RUNNELOPAL_SCRIPT_DELAY, 0, 0, 1000);
+    record(&expected, RUNNELOPAL_SCRIPT_IF, 2, PM1A_STS, 1);
+    write_record(&expected, 2, PM1A_STS, 1);
+    record(&expected, RUNNELOPAL_SCRIPT_ELSE, 0, 0, 0);
+    read_record(&expected, 4, TIMER);
+    for (int k = 0; k < 3; k++)
+        record(&expected, RUNNELOPAL_SCRIPT_END, 0, 0, 0);
+    check_assembled(expected.bytes, expected.length);
+}
+
+static void lines(void)
+{
+    const records none = {{0}, 0};
+    static const char *const empty[] = {"", " ", "\t \t", ";", "; write 1", "  ;;\r", "\n\n\n", "\r\n\r\n", " \r\n;\xFF\xFE"};
+    for (size_t k = 0; k < sizeof empty / sizeof *empty; k++)
+        check_line(empty[k], &none);
+    set_text("");
+    put_bytes(";\0 ", 3); /* any byte may be in a comment */
+    check_assembled(none.bytes, 0);
+
+    records two = {{0}, 0};
+    record(&two, RUNNELOPAL_SCRIPT_END, 0, 0, 0);
+    read_record(&two, 1, 0x2E);
+    check_line("end\nread 1 2Eh", &two);
+    check_line("end\r\nread 1 2Eh", &two);
+    check_line(";\r\n\n  end \r\n;\n\tread\t1\t2Eh;", &two);
+}
+
+/* A line that is refused, on each of five lines of a text, with and without a line feed at its end. The lines after it are bad too, in every
+ * way. */
+static void bad_line(const char *line, size_t length, uint32_t number)
+{
+    for (size_t place = 0; place < 5; place++)
+        for (int rest = 0; rest < 4; rest++) {
+            set_text("");
+            for (size_t k = 0; k < place; k++)
+                put_text(k == 2 ? "; a comment\r\n" : "read 1 2Eh\n");
+            put_bytes(line, length);
+            if (rest >= 1)
+                put_text("\n");
+            if (rest == 2)
+                put_text("read 1 2Eh\nread 3 2Eh\nwrong\n");
+            if (rest == 3)
+                put_times(RUNNELOPAL_LINE_BYTES + 1, ' ');
+            check_refused_text(number, place);
+        }
+}
+
+static void not_in_grammar(void)
+{
+    static const char *const bad[] = {
+        "Write 1 2Eh 55h", "WRITE 1 2Eh 55h", "writ 1 2Eh 55h", "writes 1 2Eh 55h", "x", "1", "55h", ",", "=",
+        "\xEF\xBB\xBF" "end", "\xC2\xA0" "end", /* a byte order mark, a space of another kind */
+        "write", "write 1", "write 1 2Eh", "write 1 2Eh 55h 0", "write1 2Eh 55h", "write 1 2Eh55h 1 1", "write 1, 2Eh, 55h",
+        "read", "read 1", "read 1 2Eh 0", "read 1 2E", "read 1 $2E", "read 1 0x2E", "read 1 2Ehh", "read 1 h", "read 1 H", "read 1 2Eh2",
+        "read 1 2Gh",
+        "delay", "delay 1 2", "delay -1", "delay +1", "delay 1,000", "delay 1.0", "delay A", "delay 1 000", "delay end",
+        "repeat", "repeat x", "repeat 3 4", "3 repeat", "if", "if 1", "if 1 2Eh", "if 1 2Eh 1 1", "16 x if 1 2Eh 1",
+        "else 1", "elseif", "end 1", "end end", "else end", "ends", "en", "e nd",
+        "\rend", "end\r ", "end\r\r", "end\rend", "en\rd", "end\v", "end\f", "end\x7F", "end\x1F", "end\x80", "end :", "end #",
+        /* 31 comes before 32. */
+        "write 9 99999h", "write 3 2Eh 100h 0", "delay 65536 x", "read 3 65536 0", "99999999999999999999",
+    };
+    for (size_t k = 0; k < sizeof bad / sizeof *bad; k++)
+        bad_line(bad[k], strlen(bad[k]), RUNNELOPAL_NOT_IN_GRAMMAR);
+    bad_line("end\0", 4, RUNNELOPAL_NOT_IN_GRAMMAR);
+    bad_line("\0", 1, RUNNELOPAL_NOT_IN_GRAMMAR);
+}
+
+static void numbers_too_big(void)
+{
+    static const char *const bad[] = {
+        "write 1 2Eh 100h", "write 1 2Eh 256", "write 2 2Eh 10000h", "write 2 2Eh 65536", "write 4 2Eh 100000000h", "write 4 2Eh 4294967296",
+        "write 0 2Eh 0", "write 3 2Eh 0", "write 5 2Eh 0", "write 8 2Eh 0", "write 257 2Eh 0", "write 100000001h 2Eh 0", "write 1 10000h 0",
+        "write 1 10000002Eh 0", "write 1 2Eh 18446744073709551616", "write 1 2Eh 10000000000000055h", "write 10000000000000001h 2Eh 0",
+        "read 0 2Eh", "read 3 2Eh", "read 16 2Eh", "read 1 65536", "read 1 FFFFFh", "read 1 1000000000000002Eh", "read 99999999999999999999 2Eh",
+        "delay 65536", "delay 10000h", "delay 4294967296", "delay 18446744073709551616", "delay 18446744073709551617; 1 too",
+        "repeat 65536", "repeat 0010000h", "repeat 100000003h",
+        "if 1 2Eh 100h", "if 2 2Eh 10000h", "if 4 2Eh 100000000h", "if 3 2Eh 0", "if 1 65536 0",
+    };
+    for (size_t k = 0; k < sizeof bad / sizeof *bad; k++)
+        bad_line(bad[k], strlen(bad[k]), RUNNELOPAL_NUMBER_TOO_BIG);
+
+    /* A number of a hundred digits: too big, or with leading zeros. */
+    records delay = {{0}, 0}, write = {{0}, 0};
+    record(&delay, RUNNELOPAL_SCRIPT_DELAY, 0, 0, 7);
+    write_record(&write, 1, 7, 9);
+    for (int first = 0; first <= 9; first++)
+        for (int hex = 0; hex <= 1; hex++) {
+            char digits[101] = {0}, count[RUNNELOPAL_LINE_BYTES], port[RUNNELOPAL_LINE_BYTES];
+            memset(digits, first == 0 ? '0' : '7', 100);
+            digits[0] = (char)('0' + first);
+            digits[99] = '7';
+            snprintf(count, sizeof count, "delay %s%s", digits, hex ? "h" : "");
+            snprintf(port, sizeof port, "write 1 %s%s 9", digits, hex ? "h" : "");
+            if (first == 0) {
+                check_line(count, &delay);
+                check_line(port, &write);
+            } else {
+                bad_line(count, strlen(count), RUNNELOPAL_NUMBER_TOO_BIG);
+                bad_line(port, strlen(port), RUNNELOPAL_NUMBER_TOO_BIG);
+            }
+        }
+}
+
+/* 120 bytes before the line feed are allowed. 30 comes before 31 and before 32. */
+static void long_lines(void)
+{
+    static const struct {
+        const char *start;
+        char fill;
+        const char *end;
+        uint32_t number; /* at 120 bytes */
+    } parts[] = {
+        {"end", ' ', "", 0},
+        {"", ' ', "end", 0},
+        {"", '\t', "end\r", 0},
+        {"end;", 'x', "", 0},
+        {"end;", 'x', "\r", 0},
+        {"end ", ' ', "\r", 0},
+        {"wrong;", 'x', "", RUNNELOPAL_NOT_IN_GRAMMAR},
+        {"end ", ' ', "x\r", RUNNELOPAL_NOT_IN_GRAMMAR},
+        {"", 'e', "", RUNNELOPAL_NOT_IN_GRAMMAR},
+        {"delay ", '9', "", RUNNELOPAL_NUMBER_TOO_BIG},
+        {"read 3 2Eh ;", ';', "", RUNNELOPAL_NUMBER_TOO_BIG},
+    };
+    records expected = {{0}, 0};
+    record(&expected, RUNNELOPAL_SCRIPT_END, 0, 0, 0);
+    for (size_t k = 0; k < sizeof parts / sizeof *parts; k++)
+        for (size_t more = 0; more <= 2; more++) {
+            char line[RUNNELOPAL_LINE_BYTES + 2];
+            const size_t length = RUNNELOPAL_LINE_BYTES + more, start = strlen(parts[k].start), end = strlen(parts[k].end);
+            memset(line, parts[k].fill, length);
+            memcpy(line, parts[k].start, start);
+            memcpy(line + length - end, parts[k].end, end);
+            uint32_t number = more == 0 ? parts[k].number : RUNNELOPAL_LINE_TOO_LONG;
+            if (number != 0) {
+                bad_line(line, length, number);
+                continue;
+            }
+            for (int with = 0; with <= 1; with++) {
+                set_text("");
+                put_bytes(line, length);
+                put_text(with ? "\n" : "");
+                check_assembled(expected.bytes, expected.length);
+            }
+        }
+    set_text("");
+    put_times(TEXT, ' ');
+    check_refused_text(RUNNELOPAL_LINE_TOO_LONG, 0);
+}
+
+/* More statements than a script may have are read too. Each one is another write. */
+static void many_statements(void)
+{
+    static const size_t counts[] = {MOST - 1, MOST, MOST + 1, 2 * MOST, 2 * MOST + 1, 5000};
+    static uint8_t expected[RECORD * 5000];
+    char line[RUNNELOPAL_LINE_BYTES];
+    for (size_t k = 0; k < 5000; k++) {
+        records one = {{0}, 0};
+        write_record(&one, 2, (uint32_t)(7 * k), (uint32_t)k);
+        memcpy(expected + RECORD * k, one.bytes, RECORD);
+    }
+    for (size_t k = 0; k < sizeof counts / sizeof *counts; k++) {
+        set_text("");
+        for (size_t place = 0; place < counts[k]; place++) {
+            snprintf(line, sizeof line, "write 2 %u %Xh\n", (unsigned)(7 * place), (unsigned)place);
+            put_text(line);
+        }
+        check_assembled(expected, RECORD * counts[k]);
+        runnelopal_compile_answer compiled = runnelopal_compile(expected, RECORD * counts[k], NULL, 0);
+        CHECK((compiled.refusal == RUNNELOPAL_BAD_LENGTH) == (counts[k] > MOST));
+        put_text("read 3 2Eh");
+        check_refused_text(RUNNELOPAL_NUMBER_TOO_BIG, counts[k]);
+    }
+    set_text("");
+    put_times(TEXT - 1, '\n'); /* more lines than 16 bits can count */
+    put_text("x");
+    check_refused_text(RUNNELOPAL_NOT_IN_GRAMMAR, TEXT - 1);
+}
+
+static void listings(void)
+{
+    set_text("");
+    fresh(&all);
+    check_listed(&all.script);
+    CHECK(text_bytes == 0);
+
+    set_text("write 1 002Eh 55h\n"
+             "write 2 AC08h 0001h\n"
+             "write 4 AC14h 0000111Fh\n"
+             "read 1 002Fh\n"
+             "delay 0\n"
+             "delay 1000\n"
+             "repeat 3\n"
+             "    delay 65535\n"
+             "    if 2 AC08h 0001h\n"
+             "        write 1 0000h 0Ah\n"
+             "    else\n"
+             "        read 4 FFFFh\n"
+             "        if 4 0B00h FFFFFFFFh\n"
+             "        end\n"
+             "    end\n"
+             "end\n"
+             "end\n" /* no block is open */
+             "else\n"
+             "read 2 AC08h\n"
+             "repeat 10\n"
+             "else\n"
+             "    if 1 002Eh 00h\n");
+    write_record(&all.script, 1, 0x2E, 0x55);
+    write_record(&all.script, 2, PM1A_STS, 1);
+    write_record(&all.script, 4, SETUP_DATA, 0x111F);
+    read_record(&all.script, 1, 0x2F);
+    record(&all.script, RUNNELOPAL_SCRIPT_DELAY, 0, 0, 0);
+    record(&all.script, RUNNELOPAL_SCRIPT_DELAY, 0, 0, 1000);
+    record(&all.script, RUNNELOPAL_SCRIPT_REPEAT, 0, 0, 3);
+    record(&all.script, RUNNELOPAL_SCRIPT_DELAY, 0, 0, 65535);
+    record(&all.script, RUNNELOPAL_SCRIPT_IF, 2, PM1A_STS, 1);
+    write_record(&all.script, 1, 0, 0x0A);
+    record(&all.script, RUNNELOPAL_SCRIPT_ELSE, 0, 0, 0);
+    read_record(&all.script, 4, 0xFFFF);
+    record(&all.script, RUNNELOPAL_SCRIPT_IF, 4, 0x0B00, 0xFFFFFFFF);
+    record(&all.script, RUNNELOPAL_SCRIPT_END, 0, 0, 0);
+    record(&all.script, RUNNELOPAL_SCRIPT_END, 0, 0, 0);
+    record(&all.script, RUNNELOPAL_SCRIPT_END, 0, 0, 0);
+    record(&all.script, RUNNELOPAL_SCRIPT_END, 0, 0, 0);
+    record(&all.script, RUNNELOPAL_SCRIPT_ELSE, 0, 0, 0);
+    read_record(&all.script, 2, PM1A_STS);
+    record(&all.script, RUNNELOPAL_SCRIPT_REPEAT, 0, 0, 10);
+    record(&all.script, RUNNELOPAL_SCRIPT_ELSE, 0, 0, 0);
+    record(&all.script, RUNNELOPAL_SCRIPT_IF, 1, 0x2E, 0);
+    check_listed(&all.script);
+
+    /* Twenty blocks, and all writes inside them: the lines are indented for 16. This is almost the longest listing. */
+    set_text("");
+    fresh(&all);
+    for (size_t k = 0; k < MOST; k++) {
+        put_times(4 * (k < 16 ? k : 16), ' ');
+        put_text(k < 20 ? "if 4 AC18h 80000000h\n" : "write 4 AC14h 0000111Fh\n");
+        if (k < 20)
+            record(&all.script, RUNNELOPAL_SCRIPT_IF, 4, TIMER, 0x80000000);
+        else
+            write_record(&all.script, 4, SETUP_DATA, 0x111F);
+    }
+    CHECK(text_bytes <= RUNNELOPAL_TEXT_BYTES);
+    check_listed(&all.script);
+
+    /* The ends close the blocks that are not indented too. */
+    set_text("");
+    fresh(&all);
+    for (size_t k = 0; k < 50; k++) {
+        const size_t open = k < 25 ? k : 49 - k;
+        put_times(4 * (open < 16 ? open : 16), ' ');
+        put_text(k < 25 ? "repeat 2\n" : "end\n");
+        record(&all.script, k < 25 ? RUNNELOPAL_SCRIPT_REPEAT : RUNNELOPAL_SCRIPT_END, 0, 0, k < 25 ? 2 : 0);
+    }
+    check_listed(&all.script);
+}
+
+/* Each script of the command line. */
+static int scripts;
+static char **script_names;
+
+static void round_trips(void)
+{
+    for (int k = 0; k < scripts; k++) {
+        fresh(&all);
+        FILE *file = fopen(script_names[k], "rb");
+        CHECK(file != NULL);
+        if (file == NULL)
+            continue;
+        all.script.length = fread(all.script.bytes, 1, sizeof all.script.bytes, file);
+        fclose(file);
+        check_round_trip(&all.script);
+    }
+}
+
 static void null_pointers(void)
 {
     busy(&all);
@@ -887,6 +1359,24 @@ static void null_pointers(void)
         CHECK(compiled.refusal == RUNNELOPAL_BUFFER_TOO_SHORT && compiled.place == 3);
         compiled = runnelopal_compile(NULL, many, NULL, many);
         CHECK(compiled.refusal == RUNNELOPAL_BUFFER_TOO_SHORT && compiled.place == 0);
+
+        set_text("\nend");
+        runnelopal_assemble_answer read = runnelopal_assemble(text, text_bytes, NULL, many);
+        CHECK(read.refusal == RUNNELOPAL_RECORDS_TOO_SHORT && read.place == 0 && read.records == 0);
+        read = runnelopal_assemble(text, text_bytes - 1, NULL, many);
+        CHECK(read.refusal == RUNNELOPAL_NOT_IN_GRAMMAR && read.place == 1 && read.records == 0);
+        read = runnelopal_assemble(text, 1, NULL, many);
+        CHECK(read.refusal == 0 && read.place == 0 && read.records == 0);
+        read = runnelopal_assemble(NULL, many, NULL, many);
+        CHECK(read.refusal == 0 && read.place == 0 && read.records == 0);
+        read = runnelopal_assemble(NULL, many, all.image.bytes, all.image.length);
+        CHECK(read.refusal == 0 && read.place == 0 && read.records == 0);
+        runnelopal_list_answer listed = runnelopal_list(all.script.bytes, all.script.length, NULL, many);
+        CHECK(listed.refusal == RUNNELOPAL_TEXT_TOO_SHORT && listed.place == 0 && listed.length == 0);
+        listed = runnelopal_list(NULL, many, NULL, many);
+        CHECK(listed.refusal == 0 && listed.place == 0 && listed.length == 0);
+        listed = runnelopal_list(NULL, many, all.image.bytes, all.image.length);
+        CHECK(listed.refusal == 0 && listed.place == 0 && listed.length == 0);
 
         CHECK(refused(runnelopal_run(NULL, many, NULL, many, NULL, many, NULL, many, 9, NULL, many), RUNNELOPAL_BAD_IMAGE, 0));
         CHECK(refused(runnelopal_run(NULL, many, all.device, DEVICE, all.sequencer, SEQUENCER, NULL, many, 9, all.log, 8),
@@ -919,7 +1409,7 @@ static void null_pointers(void)
     CHECK(full.outcome == RUNNELOPAL_LOG_FULL && full.steps == 1 && full.logged == 0);
 }
 
-int main(void)
+int main(int argc, char **argv)
 {
     static const struct {
         const char *name;
@@ -944,8 +1434,18 @@ int main(void)
         {"single calls", single_calls},
         {"parts", parts},
         {"counters", counters},
+        {"statements", statements},
+        {"lines", lines},
+        {"not in the grammar", not_in_grammar},
+        {"numbers too big", numbers_too_big},
+        {"long lines", long_lines},
+        {"many statements", many_statements},
+        {"listings", listings},
+        {"round trips", round_trips},
         {"null pointers", null_pointers},
     };
+    scripts = argc - 1;
+    script_names = argv + 1;
     for (size_t k = 0; k < sizeof tests / sizeof *tests; k++) {
         test = tests[k].name;
         item = 0;

@@ -1,8 +1,10 @@
-/* Runnelopal from C: compiles or interprets board setup scripts, runs them on a model of the chip, and makes single register accesses.
+/* Runnelopal from C: reads, lists, compiles or interprets board setup scripts, runs them on a model of the chip, and makes single register
+ * accesses.
  *
  * Link with target/staticlib/librunnelopal.a, which `rt staticlib runnelopal` builds. docs/CHIP.md describes the chip, its registers,
- * scripts, images and events; docs/STATE.md has the layouts of a saved device and of a saved sequencer. The header is C99 and C++11.
- * Complete programs: bindings/c/example.c (a whole run), resume.c (a run in parts), single_step.c (word by word).
+ * scripts, images and events; docs/TEXT.md describes text scripts and listings; docs/STATE.md has the layouts of a saved device and of a
+ * saved sequencer. The header is C99 and C++11. Complete programs: bindings/c/text.c (a text script), example.c (a whole run), resume.c (a
+ * run in parts), single_step.c (word by word).
  *
  * The library keeps nothing between two calls. A device and a sequencer are bytes of the caller: a call reads them and, if it is not
  * refused, replaces them by those after it. A new run starts from a fresh sequencer, on a fresh device or any other: see
@@ -33,6 +35,9 @@ extern "C" {
 #define RUNNELOPAL_SEQUENCER_BYTES 40 /* a saved sequencer */
 #define RUNNELOPAL_IMAGE_BYTES 12288  /* an image buffer of this size is large enough for every script */
 #define RUNNELOPAL_RECORD_BYTES 12    /* a script record, and an image word */
+#define RUNNELOPAL_SCRIPT_BYTES 12288 /* the longest script that is compiled, interpreted or listed: 1,024 records */
+#define RUNNELOPAL_LINE_BYTES 120     /* the longest line of a text script, without its LF */
+#define RUNNELOPAL_TEXT_BYTES 90112   /* a text buffer of this size is large enough for every listing: 1,024 lines of at most 88 bytes */
 #define RUNNELOPAL_COUNTERS 8         /* the loop counters of a sequencer, in use or not */
 
 /* ---- Refusals */
@@ -49,6 +54,13 @@ extern "C" {
 #define RUNNELOPAL_BAD_IMAGE 10       /* the image is empty, not a multiple of 12 bytes, or has more than 1,024 words; place 0 */
 #define RUNNELOPAL_BAD_STATE 11       /* the bytes are not a valid device, or not a valid sequencer; place 0 */
 #define RUNNELOPAL_BAD_EVENT 12       /* not an event; in a run, the place is its index, or 4096 if there are more than 4,096 events */
+
+/* Of text scripts. */
+#define RUNNELOPAL_LINE_TOO_LONG 30     /* a line of more than 120 bytes; the place is the number of the line, as for 31 and 32, counted from 0 */
+#define RUNNELOPAL_NOT_IN_GRAMMAR 31    /* the line is not in the grammar */
+#define RUNNELOPAL_NUMBER_TOO_BIG 32    /* a width other than 1, 2 and 4, or a port, value or count that does not fit */
+#define RUNNELOPAL_RECORDS_TOO_SHORT 33 /* the record buffer is too short; place 0, as for 34 */
+#define RUNNELOPAL_TEXT_TOO_SHORT 34    /* the text buffer is too short */
 
 /* ---- How a run ended. 20 to 24 are faults: the word at fault is not executed, and takes no event. */
 
@@ -147,6 +159,18 @@ typedef struct runnelopal_compile_answer {
     uint32_t words;   /* the image is RUNNELOPAL_RECORD_BYTES times this many bytes long */
 } runnelopal_compile_answer;
 
+typedef struct runnelopal_assemble_answer {
+    uint32_t refusal; /* 0, or 30 to 33 */
+    size_t place;     /* of the refusal */
+    size_t records;   /* the script is RUNNELOPAL_RECORD_BYTES times this many bytes long */
+} runnelopal_assemble_answer;
+
+typedef struct runnelopal_list_answer {
+    uint32_t refusal; /* 0, 1 to 4, or 34 */
+    uint32_t place;   /* of the refusal */
+    size_t length;    /* the listing is this many bytes long */
+} runnelopal_list_answer;
+
 typedef struct runnelopal_run_answer {
     uint32_t outcome; /* how the run ended, or a refusal; runnelopal_is_refusal tells which */
     uint32_t place;   /* of the refusal */
@@ -181,6 +205,8 @@ typedef struct runnelopal_sequencer_answer {
 /* ---- The symbols of the library. They take no null pointers; call the functions below, which do. */
 
 runnelopal_compile_answer runnelopal_raw_compile(const uint8_t *script, size_t script_bytes, uint8_t *image, size_t image_bytes);
+runnelopal_assemble_answer runnelopal_raw_assemble(const uint8_t *text, size_t text_bytes, uint8_t *records, size_t record_bytes);
+runnelopal_list_answer runnelopal_raw_list(const uint8_t *script, size_t script_bytes, uint8_t *text, size_t text_bytes);
 runnelopal_run_answer runnelopal_raw_run(const uint8_t *image, size_t image_bytes, uint8_t *device, size_t device_bytes,
                                          uint8_t *sequencer, size_t sequencer_bytes, const uint32_t *events, size_t event_count,
                                          uint32_t budget, uint64_t *log, size_t log_count);
@@ -214,6 +240,24 @@ static inline runnelopal_compile_answer runnelopal_compile(const uint8_t *script
 {
     uint8_t none = 0; /* in place of a null pointer, here and below: the library needs a pointer that is not null and is aligned */
     return runnelopal_raw_compile(script ? script : &none, script ? script_bytes : 0, image ? image : &none, image ? image_bytes : 0);
+}
+
+/* Reads a text script into the record buffer: one record for each statement. The rest of the buffer, after the records, is not changed.
+ * Refusals: 30 to 32 for the first bad line, with the least number; 33 if no line is bad. Blocks are not checked, and the number of
+ * statements is not limited; runnelopal_compile checks both. */
+static inline runnelopal_assemble_answer runnelopal_assemble(const uint8_t *text, size_t text_bytes, uint8_t *records, size_t record_bytes)
+{
+    uint8_t none = 0;
+    return runnelopal_raw_assemble(text ? text : &none, text ? text_bytes : 0, records ? records : &none, records ? record_bytes : 0);
+}
+
+/* Writes the listing of a script to the text buffer: a text script with one line for each record, without a zero byte at its end. The rest of
+ * the buffer, after the listing, is not changed. Refusals: 1 to 4 for the script, then 34. runnelopal_assemble reads the listing as the same
+ * records, byte for byte. */
+static inline runnelopal_list_answer runnelopal_list(const uint8_t *script, size_t script_bytes, uint8_t *text, size_t text_bytes)
+{
+    uint8_t none = 0;
+    return runnelopal_raw_list(script ? script : &none, script ? script_bytes : 0, text ? text : &none, text ? text_bytes : 0);
 }
 
 /* Runs an image on the saved device, from the place of the saved sequencer. `events` are the outside events; the next one is applied

@@ -1,14 +1,16 @@
-//! Runnelopal from Rust: compiles or interprets board setup scripts, runs them on a model of the chip, and makes single register accesses.
+//! Runnelopal from Rust: reads, lists, compiles or interprets board setup scripts, runs them on a model of the chip, and makes single register
+//! accesses.
 //!
 //! These are safe wrappers of the functions in `target/staticlib/librunnelopal.a`, which `rt staticlib runnelopal` builds. The functions
 //! have no preconditions: every byte and number is a valid argument, and a call that cannot do what it is asked to do returns a
-//! [`Refusal`]. `docs/CHIP.md` describes the chip, its registers, scripts, images and events; `docs/STATE.md` has the layouts of a saved
-//! device and of a saved sequencer.
+//! [`Refusal`], or a [`TextRefusal`]. `docs/CHIP.md` describes the chip, its registers, scripts, images and events; `docs/TEXT.md` describes
+//! text scripts and listings; `docs/STATE.md` has the layouts of a saved device and of a saved sequencer.
 //!
 //! The library keeps nothing between two calls. A [`Device`] and a [`Sequencer`] are bytes of the caller: a call reads them and, if it is not
 //! refused, replaces them by those after it. A new run starts from [`Sequencer::fresh`], on [`Device::fresh`] or any other device.
 //!
-//! Complete programs, in `examples/`: `trace.rs` (a whole run), `resume.rs` (a run in parts), `single_step.rs` (word by word).
+//! Complete programs, in `examples/`: `text.rs` (a text script), `trace.rs` (a whole run), `resume.rs` (a run in parts), `single_step.rs` (word
+//! by word).
 
 use std::fmt;
 
@@ -23,6 +25,15 @@ pub const IMAGE_BYTES: usize = 12_288;
 
 /// Size in bytes of a script record and of an image word.
 pub const RECORD_BYTES: usize = 12;
+
+/// Size in bytes of the longest script that is compiled, interpreted or listed: 1,024 records.
+pub const SCRIPT_BYTES: usize = 12_288;
+
+/// Size in bytes of the longest line of a text script, without its LF.
+pub const LINE_BYTES: usize = 120;
+
+/// A text buffer of this many bytes is large enough for every listing: 1,024 lines of at most 88 bytes.
+pub const TEXT_BYTES: usize = 90_112;
 
 /// The loop counters of a sequencer, in use or not.
 pub const COUNTERS: usize = 8;
@@ -53,6 +64,17 @@ pub mod refusal {
     pub const BAD_STATE: u32 = 11;
     /// Not an event. In a run the place is its index, or 4096 if there are more than 4,096 events.
     pub const BAD_EVENT: u32 = 12;
+    /// A line of a text has more than 120 bytes. The place is the number of the line, as for `NOT_IN_GRAMMAR` and `NUMBER_TOO_BIG`, counted
+    /// from 0.
+    pub const LINE_TOO_LONG: u32 = 30;
+    /// The line is not in the grammar.
+    pub const NOT_IN_GRAMMAR: u32 = 31;
+    /// A width other than 1, 2 and 4, or a port, value or count that does not fit.
+    pub const NUMBER_TOO_BIG: u32 = 32;
+    /// The record buffer is too short. The place is 0, as for `TEXT_TOO_SHORT`.
+    pub const RECORDS_TOO_SHORT: u32 = 33;
+    /// The text buffer is too short.
+    pub const TEXT_TOO_SHORT: u32 = 34;
 }
 
 /// How a run can end. 20 to 24 are faults: the word at fault is not executed, and takes no event.
@@ -193,6 +215,20 @@ mod raw {
     }
 
     #[repr(C)]
+    pub struct AssembleAnswer {
+        pub refusal: u32,
+        pub place: usize,
+        pub records: usize,
+    }
+
+    #[repr(C)]
+    pub struct ListAnswer {
+        pub refusal: u32,
+        pub place: u32,
+        pub length: usize,
+    }
+
+    #[repr(C)]
     pub struct RunAnswer {
         pub outcome: u32,
         pub place: u32,
@@ -229,6 +265,8 @@ mod raw {
 
     extern "C" {
         pub fn runnelopal_raw_compile(script: *const u8, script_bytes: usize, image: *mut u8, image_bytes: usize) -> CompileAnswer;
+        pub fn runnelopal_raw_assemble(text: *const u8, text_bytes: usize, records: *mut u8, record_bytes: usize) -> AssembleAnswer;
+        pub fn runnelopal_raw_list(script: *const u8, script_bytes: usize, text: *mut u8, text_bytes: usize) -> ListAnswer;
         pub fn runnelopal_raw_run(
             image: *const u8,
             image_bytes: usize,
@@ -266,8 +304,8 @@ mod raw {
     }
 }
 
-/// Why a call was refused: a number of the module [`refusal`], and the place of the fault. A refused call changes neither the image, the
-/// log, the device nor the sequencer.
+/// Why a call was refused: a number of the module [`refusal`], and the place of the fault. A refused call changes no buffer: neither the image,
+/// the listing, the log, the device nor the sequencer.
 #[derive(Clone, Copy, Debug, PartialEq, Eq)]
 pub struct Refusal {
     pub number: u32,
@@ -281,6 +319,23 @@ impl fmt::Display for Refusal {
 }
 
 impl std::error::Error for Refusal {}
+
+/// Why a text script was refused: a number of the module [`refusal`], and the number of the line, counted from 0. A text may have more lines
+/// than a `u32` can count. A refused text leaves the record buffer unchanged.
+#[derive(Clone, Copy, Debug, PartialEq, Eq)]
+pub struct TextRefusal {
+    pub number: u32,
+    /// 0 if the record buffer is too short.
+    pub place: usize,
+}
+
+impl fmt::Display for TextRefusal {
+    fn fmt(&self, formatter: &mut fmt::Formatter<'_>) -> fmt::Result {
+        write!(formatter, "refused with {} at place {}", self.number, self.place)
+    }
+}
+
+impl std::error::Error for TextRefusal {}
 
 fn refused<T>(number: u32, place: u32, done: T) -> Result<T, Refusal> {
     if number == 0 {
@@ -302,6 +357,27 @@ pub fn compile(script: &[u8], image: &mut [u8]) -> Result<usize, Refusal> {
     // mutably, so they overlap no other slice.
     let answer = unsafe { raw::runnelopal_raw_compile(script.as_ptr(), script.len(), image.as_mut_ptr(), image.len()) };
     refused(answer.refusal, answer.place, answer.words as usize)
+}
+
+/// Reads a text script into the record buffer and returns the number of records, one for each statement. The script is [`RECORD_BYTES`] bytes
+/// for each record; the rest of the buffer is not changed. Refusals: 30 to 32 for the first bad line, with the least number; 33 if no line is
+/// bad. Blocks are not checked, and the number of statements is not limited; [`compile`] checks both.
+pub fn assemble(text: &[u8], records: &mut [u8]) -> Result<usize, TextRefusal> {
+    // SAFETY: as in `compile`.
+    let answer = unsafe { raw::runnelopal_raw_assemble(text.as_ptr(), text.len(), records.as_mut_ptr(), records.len()) };
+    if answer.refusal == 0 {
+        Ok(answer.records)
+    } else {
+        Err(TextRefusal { number: answer.refusal, place: answer.place })
+    }
+}
+
+/// Writes the listing of a script to the text buffer and returns its length. It is a text script with one line for each record. The rest of the
+/// buffer is not changed. Refusals: 1 to 4 for the script, then 34. [`assemble`] reads the listing as the same records, byte for byte.
+pub fn list(script: &[u8], text: &mut [u8]) -> Result<usize, Refusal> {
+    // SAFETY: as in `compile`.
+    let answer = unsafe { raw::runnelopal_raw_list(script.as_ptr(), script.len(), text.as_mut_ptr(), text.len()) };
+    refused(answer.refusal, answer.place, answer.length)
 }
 
 /// An entry of the log, taken apart: what a read of a run leaves there. `LogEntry::from(log[k])` takes entry k apart.

@@ -1,8 +1,10 @@
 //! Tests of every call of the wrapper: each refusal with its place and the order of refusals, that a refusal changes nothing, each ending of a
-//! run, events and outputs, runs in parts, valid and not valid bytes, empty slices. bindings/c/calls.c makes the same tests of the C header.
+//! run, events and outputs, runs in parts, valid and not valid bytes, text scripts and listings, empty slices. bindings/c/calls.c makes the same
+//! tests of the C header.
 use runnelopal::{
-    compile, ending, event, interpret, owner, record, refusal, run, script_kind, status, word_kind, Device, LogEntry, Outputs, Refusal, Run,
-    Sequencer, SequencerView, COUNTERS, DEVICE_BYTES, IMAGE_BYTES, RECORD_BYTES, SEQUENCER_BYTES,
+    assemble, compile, ending, event, interpret, list, owner, record, refusal, run, script_kind, status, word_kind, Device, LogEntry, Outputs,
+    Refusal, Run, Sequencer, SequencerView, TextRefusal, COUNTERS, DEVICE_BYTES, IMAGE_BYTES, LINE_BYTES, RECORD_BYTES, SCRIPT_BYTES,
+    SEQUENCER_BYTES, TEXT_BYTES,
 };
 
 const MOST: usize = 1024;
@@ -189,6 +191,8 @@ fn numbers() {
     assert_eq!(event::number(event::RESET, event::RESET_VTR), 0x0600_0002);
     assert_eq!([event::number(256, 0), event::number(1, 0x100_0000), event::number(u32::MAX, 0)], [u32::MAX; 3]);
     assert_eq!(BAD_STATE.to_string(), "refused with 11 at place 0");
+    assert_eq!(TextRefusal { number: 31, place: 1 << 33 }.to_string(), "refused with 31 at place 8589934592");
+    assert_eq!(SCRIPT_BYTES, RECORD_BYTES * MOST);
 }
 
 /// The script is refused by the compiler and by the interpreter, before the device, the events and the length of the buffer are checked.
@@ -212,6 +216,7 @@ fn script_lengths() {
     let longest = RECORD_BYTES * MOST;
     for length in [1, 11, 13, longest - 1, longest + 1, longest + RECORD_BYTES] {
         script_is_refused(&vec![0; length], refusal::BAD_LENGTH, 0);
+        listing_is_refused(&vec![0; length], refusal::BAD_LENGTH, 0);
     }
 }
 
@@ -241,20 +246,31 @@ fn record_faults() {
     ];
     // The fault is in record 2. Record 3 has several.
     for (fault, number) in faults {
-        script_is_refused(&[read(1, 0x2E), read(1, 0x2E), fault, bytes(0, 0, 3, 0, 1, 1)].concat(), number, 2);
+        let script = [read(1, 0x2E), read(1, 0x2E), fault, bytes(0, 0, 3, 0, 1, 1)].concat();
+        script_is_refused(&script, number, 2);
+        // The lister does not check blocks, so it goes on to record 3.
+        let (number, place) = if number == refusal::MISPLACED { (refusal::WRONG_MARK, 3) } else { (number, 2) };
+        listing_is_refused(&script, number, place);
     }
+}
+
+/// A script that the compiler refuses with 5 to 8 has a listing.
+#[track_caller]
+fn blocks_are_refused(script: &[u8], number: u32, place: u32) {
+    script_is_refused(script, number, place);
+    round_trip(script);
 }
 
 #[test]
 fn blocks() {
     let branch = record(script_kind::IF, 1, 0, 1);
     let otherwise = plain(script_kind::ELSE);
-    script_is_refused(&[repeat(1), otherwise.clone()].concat(), refusal::MISPLACED, 1);
-    script_is_refused(&[branch.clone(), otherwise.clone(), otherwise].concat(), refusal::MISPLACED, 2);
-    script_is_refused(&branch.repeat(17), refusal::TOO_DEEP, 16);
-    script_is_refused(&repeat(1).repeat(9), refusal::TOO_DEEP, 8);
-    script_is_refused(&[read(1, 0), branch, read(1, 0)].concat(), refusal::STILL_OPEN, 3);
-    script_is_refused(&write(1, 0x2E, 0x55).repeat(MOST), refusal::TOO_MANY_WORDS, MOST as u32);
+    blocks_are_refused(&[repeat(1), otherwise.clone()].concat(), refusal::MISPLACED, 1);
+    blocks_are_refused(&[branch.clone(), otherwise.clone(), otherwise].concat(), refusal::MISPLACED, 2);
+    blocks_are_refused(&branch.repeat(17), refusal::TOO_DEEP, 16);
+    blocks_are_refused(&repeat(1).repeat(9), refusal::TOO_DEEP, 8);
+    blocks_are_refused(&[read(1, 0), branch, read(1, 0)].concat(), refusal::STILL_OPEN, 3);
+    blocks_are_refused(&write(1, 0x2E, 0x55).repeat(MOST), refusal::TOO_MANY_WORDS, MOST as u32);
 }
 
 #[test]
@@ -630,8 +646,374 @@ fn counters() {
     assert_eq!((view.place, view.in_use()), (3, &[2, 2][..]));
 }
 
+// ---- text scripts and listings
+
+const UNWRITTEN: u8 = 0xB7;
+
+/// Calls with a buffer of this length, and returns the result and the buffer.
+fn with_buffer<T>(length: usize, call: impl FnOnce(&mut [u8]) -> T) -> (T, Vec<u8>) {
+    let mut buffer = vec![UNWRITTEN; length];
+    let result = call(&mut buffer);
+    (result, buffer)
+}
+
+/// A buffer that starts with these bytes, and is not written after them.
+fn front(bytes: &[u8], length: usize) -> Vec<u8> {
+    let mut buffer = bytes.to_vec();
+    buffer.resize(length, UNWRITTEN);
+    buffer
+}
+
+/// The text is refused, whatever the length of the record buffer.
+#[track_caller]
+fn text_is_refused(text: &[u8], number: u32, place: usize) {
+    for length in [text.len() * RECORD_BYTES, RECORD_BYTES, 0] {
+        let refused = (Err(TextRefusal { number, place }), front(&[], length));
+        assert_eq!(with_buffer(length, |records| assemble(text, records)), refused, "{:?}", String::from_utf8_lossy(text));
+    }
+}
+
+/// The text is read into these records, if the buffer has room for them.
+#[track_caller]
+fn is_assembled(text: &[u8], expected: &[u8]) {
+    let room = expected.len();
+    for length in [room, room + 1, room + RECORD_BYTES, room + 1000] {
+        let read = (Ok(room / RECORD_BYTES), front(expected, length));
+        assert_eq!(with_buffer(length, |records| assemble(text, records)), read, "{:?}", String::from_utf8_lossy(text));
+    }
+    for length in room.saturating_sub(RECORD_BYTES + 1)..room {
+        let refused = (Err(TextRefusal { number: refusal::RECORDS_TOO_SHORT, place: 0 }), front(&[], length));
+        assert_eq!(with_buffer(length, |records| assemble(text, records)), refused);
+    }
+}
+
+/// The lister refuses the script, whatever the length of the text buffer.
+#[track_caller]
+fn listing_is_refused(script: &[u8], number: u32, place: u32) {
+    for length in [TEXT_BYTES, 1, 0] {
+        let refused = (Err(Refusal { number, place }), front(&[], length));
+        assert_eq!(with_buffer(length, |text| list(script, text)), refused);
+    }
+}
+
+/// The text is the listing of the script, if the buffer has room for it. Reading it gives the script.
+#[track_caller]
+fn is_listed(script: &[u8], text: &[u8]) {
+    let room = text.len();
+    for length in [room, room + 1, room + 1000] {
+        assert_eq!(with_buffer(length, |text| list(script, text)), (Ok(room), front(text, length)));
+    }
+    for length in room.saturating_sub(40)..room {
+        let refused = (Err(Refusal { number: refusal::TEXT_TOO_SHORT, place: 0 }), front(&[], length));
+        assert_eq!(with_buffer(length, |text| list(script, text)), refused);
+    }
+    is_assembled(text, script);
+}
+
+/// Lists a script and reads the listing. The lister refuses what the compiler refuses with 1 to 4.
+#[track_caller]
+fn round_trip(script: &[u8]) {
+    match compile(script, &mut vec![0; IMAGE_BYTES]) {
+        Err(Refusal { number: number @ refusal::BAD_LENGTH..=refusal::BAD_FIELD, place }) => listing_is_refused(script, number, place),
+        _ => {
+            let (length, text) = with_buffer(TEXT_BYTES, |text| list(script, text));
+            is_listed(script, &text[..length.expect("every record is legal")]);
+        }
+    }
+}
+
+/// A text of one line, as it is, with LF, with CR and with both.
+#[track_caller]
+fn line_is_assembled(line: &[u8], expected: &[u8]) {
+    for end in ["", "\n", "\r", "\r\n", "\n\n", "\n \t\r\n;"] {
+        is_assembled(&[line, end.as_bytes()].concat(), expected);
+    }
+}
+
+#[track_caller]
+fn statement_is_assembled(line: &str, expected: &[u8]) {
+    for (before, after) in [("", ""), (" ", "\t"), ("\t  \t", ";"), ("", "   ; \u{FC} \r ; write")] {
+        line_is_assembled(format!("{before}{line}{after}").as_bytes(), expected);
+    }
+}
+
+#[test]
+fn statements() {
+    use script_kind::{DELAY, ELSE, END, IF, REPEAT};
+    let lines = [
+        ("write 1 2Eh 55h", write(1, 0x2E, 0x55)),
+        ("write 01h 46 085", write(1, 0x2E, 0x55)),
+        ("write \t 2   AC08h\t\tFFFFh", write(2, 0xAC08, 0xFFFF)),
+        ("write 4 65535 4294967295", write(4, 0xFFFF, u32::MAX)),
+        ("write 4 0ffffH 0aBcDeF1h", write(4, 0xFFFF, 0x0ABC_DEF1)),
+        ("read 1 2fh", read(1, 0x2F)),
+        ("read 2 0", read(2, 0)),
+        ("read 4 AC18H", read(4, 0xAC18)),
+        ("delay 0", record(DELAY, 0, 0, 0)),
+        ("delay 65535", record(DELAY, 0, 0, 65_535)),
+        ("delay 10h", record(DELAY, 0, 0, 16)),
+        ("repeat 000000000000000000003", record(REPEAT, 0, 0, 3)),
+        ("repeat ffffh", record(REPEAT, 0, 0, 65_535)),
+        ("if 1 AC08h 255", record(IF, 1, 0xAC08, 255)),
+        ("if 2 44040 1", record(IF, 2, 0xAC08, 1)),
+        ("if 4 0h 80000000h", record(IF, 4, 0, 0x8000_0000)),
+        ("else", plain(ELSE)),
+        ("end", plain(END)),
+    ];
+    for (line, expected) in &lines {
+        statement_is_assembled(line, expected);
+    }
+
+    // The text of docs/TEXT.md. Blocks are not checked: a lone end is read too.
+    let text = "\
+; Unlocks the configuration, and reads key control.
+write 1 2Eh 55h         ; the key that unlocks
+write 1 2Eh F2h         ; the index of key control
+read  1 2Fh
+repeat 3
+    delay 1000
+    if 2 AC08h 0001h    ; has the timer's bit 23 changed?
+        write 2 AC08h 0001h
+    else
+        read 4 AC18h
+    end
+end
+end";
+    let script = [
+        write(1, CONFIGURATION, 0x55),
+        write(1, CONFIGURATION, 0xF2),
+        read(1, CONFIGURATION + 1),
+        repeat(3),
+        record(DELAY, 0, 0, 1000),
+        record(IF, 2, PM1A_STS, 1),
+        write(2, PM1A_STS, 1),
+        plain(ELSE),
+        read(4, TIMER),
+        plain(END).repeat(3),
+    ];
+    is_assembled(text.as_bytes(), &script.concat());
+}
+
+#[test]
+fn lines() {
+    // Any byte may be in a comment.
+    let empty: [&[u8]; 10] =
+        [b"", b" ", b"\t \t", b";", b"; write 1", b"  ;;\r", b"\n\n\n", b"\r\n\r\n", b" \r\n;\xFF\xFE", b";\0 "];
+    for line in empty {
+        line_is_assembled(line, &[]);
+    }
+    let two = [plain(script_kind::END), read(1, 0x2E)].concat();
+    for text in ["end\nread 1 2Eh", "end\r\nread 1 2Eh", ";\r\n\n  end \r\n;\n\tread\t1\t2Eh;"] {
+        line_is_assembled(text.as_bytes(), &two);
+    }
+}
+
+/// A line that is refused, on each of five lines of a text, with and without a line feed at its end. The lines after it are bad too, in every
+/// way.
+#[track_caller]
+fn line_is_refused(line: &[u8], number: u32) {
+    let long = [b"\n".to_vec(), vec![b' '; LINE_BYTES + 1]].concat();
+    for place in 0..5 {
+        let before = [b"read 1 2Eh\n".repeat(place.min(2)), b"; a comment\r\n".repeat(place.saturating_sub(2))].concat();
+        for after in [&b""[..], b"\n", b"\nread 1 2Eh\nread 3 2Eh\nwrong\n", &long] {
+            text_is_refused(&[&before, line, after].concat(), number, place);
+        }
+    }
+}
+
+#[test]
+fn not_in_grammar() {
+    let keywords = ["Write 1 2Eh 55h", "WRITE 1 2Eh 55h", "writ 1 2Eh 55h", "writes 1 2Eh 55h", "x", "1", "55h", ",", "=", "ends", "en", "e nd"];
+    // A byte order mark, and a space of another kind.
+    let unicode = ["\u{FEFF}end", "\u{A0}end"];
+    let write = ["write", "write 1", "write 1 2Eh", "write 1 2Eh 55h 0", "write1 2Eh 55h", "write 1 2Eh55h 1 1", "write 1, 2Eh, 55h"];
+    let read = [
+        "read", "read 1", "read 1 2Eh 0", "read 1 2E", "read 1 $2E", "read 1 0x2E", "read 1 2Ehh", "read 1 h", "read 1 H", "read 1 2Eh2",
+        "read 1 2Gh",
+    ];
+    let delay = ["delay", "delay 1 2", "delay -1", "delay +1", "delay 1,000", "delay 1.0", "delay A", "delay 1 000", "delay end"];
+    let blocks = [
+        "repeat", "repeat x", "repeat 3 4", "3 repeat", "if", "if 1", "if 1 2Eh", "if 1 2Eh 1 1", "16 x if 1 2Eh 1", "else 1", "elseif", "end 1",
+        "end end", "else end",
+    ];
+    let bytes = ["\rend", "end\r ", "end\r\r", "end\rend", "en\rd", "end\x0B", "end\x0C", "end\x7F", "end\x1F", "end :", "end #", "end\0", "\0"];
+    // 31 comes before 32.
+    let numbers = ["write 9 99999h", "write 3 2Eh 100h 0", "delay 65536 x", "read 3 65536 0", "99999999999999999999"];
+    for line in [&keywords[..], &unicode, &write, &read, &delay, &blocks, &bytes, &numbers].concat() {
+        line_is_refused(line.as_bytes(), refusal::NOT_IN_GRAMMAR);
+    }
+    line_is_refused(b"end\x80", refusal::NOT_IN_GRAMMAR);
+}
+
+#[test]
+fn numbers_too_big() {
+    let write = [
+        "write 1 2Eh 100h", "write 1 2Eh 256", "write 2 2Eh 10000h", "write 2 2Eh 65536", "write 4 2Eh 100000000h", "write 4 2Eh 4294967296",
+        "write 0 2Eh 0", "write 3 2Eh 0", "write 5 2Eh 0", "write 8 2Eh 0", "write 257 2Eh 0", "write 100000001h 2Eh 0", "write 1 10000h 0",
+        "write 1 10000002Eh 0", "write 1 2Eh 18446744073709551616", "write 1 2Eh 10000000000000055h", "write 10000000000000001h 2Eh 0",
+    ];
+    let read = [
+        "read 0 2Eh", "read 3 2Eh", "read 16 2Eh", "read 1 65536", "read 1 FFFFFh", "read 1 1000000000000002Eh", "read 99999999999999999999 2Eh",
+    ];
+    let counts = [
+        "delay 65536", "delay 10000h", "delay 4294967296", "delay 18446744073709551616", "delay 18446744073709551617; 1 too", "repeat 65536",
+        "repeat 0010000h", "repeat 100000003h",
+    ];
+    let ifs = ["if 1 2Eh 100h", "if 2 2Eh 10000h", "if 4 2Eh 100000000h", "if 3 2Eh 0", "if 1 65536 0"];
+    for line in [&write[..], &read, &counts, &ifs].concat() {
+        line_is_refused(line.as_bytes(), refusal::NUMBER_TOO_BIG);
+    }
+
+    // A number of a hundred digits: too big, or with leading zeros.
+    for hex in ["", "h"] {
+        let small = format!("{}7{hex}", "0".repeat(99));
+        line_is_assembled(format!("delay {small}").as_bytes(), &record(script_kind::DELAY, 0, 0, 7));
+        line_is_assembled(format!("write 1 {small} 9").as_bytes(), &record(script_kind::WRITE, 1, 7, 9));
+        for first in 1..=9 {
+            let big = format!("{first}{}{hex}", "7".repeat(99));
+            line_is_refused(format!("delay {big}").as_bytes(), refusal::NUMBER_TOO_BIG);
+            line_is_refused(format!("write 1 {big} 9").as_bytes(), refusal::NUMBER_TOO_BIG);
+        }
+    }
+}
+
+/// 120 bytes before the line feed are allowed. 30 comes before 31 and before 32.
+#[test]
+fn long_lines() {
+    // The start, the filling and the end of a line, and its refusal at 120 bytes.
+    let parts = [
+        ("end", " ", "", 0),
+        ("", " ", "end", 0),
+        ("", "\t", "end\r", 0),
+        ("end;", "x", "", 0),
+        ("end;", "x", "\r", 0),
+        ("end ", " ", "\r", 0),
+        ("wrong;", "x", "", refusal::NOT_IN_GRAMMAR),
+        ("end ", " ", "x\r", refusal::NOT_IN_GRAMMAR),
+        ("", "e", "", refusal::NOT_IN_GRAMMAR),
+        ("delay ", "9", "", refusal::NUMBER_TOO_BIG),
+        ("read 3 2Eh ;", ";", "", refusal::NUMBER_TOO_BIG),
+    ];
+    for (start, filling, end, number) in parts {
+        let line = |length: usize| format!("{start}{}{end}", filling.repeat(length - start.len() - end.len()));
+        let longest = line(LINE_BYTES);
+        if number == 0 {
+            is_assembled(longest.as_bytes(), &plain(script_kind::END));
+            is_assembled(format!("{longest}\n").as_bytes(), &plain(script_kind::END));
+        } else {
+            line_is_refused(longest.as_bytes(), number);
+        }
+        line_is_refused(line(LINE_BYTES + 1).as_bytes(), refusal::LINE_TOO_LONG);
+        line_is_refused(line(LINE_BYTES + 2).as_bytes(), refusal::LINE_TOO_LONG);
+    }
+    text_is_refused(&[b' '; 1 << 17], refusal::LINE_TOO_LONG, 0);
+}
+
+/// More statements than a script may have are read too. Each one is another write.
+#[test]
+fn many_statements() {
+    for count in [MOST - 1, MOST, MOST + 1, 2 * MOST, 2 * MOST + 1, 5000] {
+        let mut text: String = (0..count).map(|k| format!("write 2 {} {k:X}h\n", 7 * k)).collect();
+        let script: Vec<u8> = (0..count).flat_map(|k| write(2, 7 * k as u16, k as u32)).collect();
+        is_assembled(text.as_bytes(), &script);
+        let bad_length = Err(Refusal { number: refusal::BAD_LENGTH, place: 0 });
+        assert_eq!(compile(&script, &mut vec![0; IMAGE_BYTES]) == bad_length, count > MOST);
+        text += "read 3 2Eh";
+        text_is_refused(text.as_bytes(), refusal::NUMBER_TOO_BIG, count);
+    }
+    // More lines than 16 bits can count.
+    text_is_refused(&[vec![b'\n'; 1 << 17], b"x".to_vec()].concat(), refusal::NOT_IN_GRAMMAR, 1 << 17);
+}
+
+#[test]
+fn listings() {
+    use script_kind::{DELAY, ELSE, END, IF};
+    is_listed(&[], b"");
+    let listing = "\
+write 1 002Eh 55h
+write 2 AC08h 0001h
+write 4 AC14h 0000111Fh
+read 1 002Fh
+delay 0
+delay 1000
+repeat 3
+    delay 65535
+    if 2 AC08h 0001h
+        write 1 0000h 0Ah
+    else
+        read 4 FFFFh
+        if 4 0B00h FFFFFFFFh
+        end
+    end
+end
+end
+else
+read 2 AC08h
+repeat 10
+else
+    if 1 002Eh 00h
+";
+    // No block is open at the fourth end.
+    let script = [
+        write(1, 0x2E, 0x55),
+        write(2, PM1A_STS, 1),
+        write(4, SETUP_DATA, 0x111F),
+        read(1, 0x2F),
+        record(DELAY, 0, 0, 0),
+        record(DELAY, 0, 0, 1000),
+        repeat(3),
+        record(DELAY, 0, 0, 65_535),
+        record(IF, 2, PM1A_STS, 1),
+        write(1, 0, 0x0A),
+        plain(ELSE),
+        read(4, 0xFFFF),
+        record(IF, 4, 0x0B00, u32::MAX),
+        plain(END).repeat(4),
+        plain(ELSE),
+        read(2, PM1A_STS),
+        repeat(10),
+        plain(ELSE),
+        record(IF, 1, 0x2E, 0),
+    ];
+    is_listed(&script.concat(), listing.as_bytes());
+
+    // Twenty blocks, and all writes inside them: the lines are indented for 16. This is almost the longest listing.
+    let indented = |open: usize, line: &str| format!("{:1$}{line}\n", "", 4 * open.min(16));
+    let ifs = (0..20).map(|open| indented(open, "if 4 AC18h 80000000h"));
+    let writes = (20..MOST).map(|_| indented(20, "write 4 AC14h 0000111Fh"));
+    let text: String = ifs.chain(writes).collect();
+    assert!(text.len() <= TEXT_BYTES);
+    let script = [record(IF, 4, TIMER, 0x8000_0000).repeat(20), write(4, SETUP_DATA, 0x111F).repeat(MOST - 20)];
+    is_listed(&script.concat(), text.as_bytes());
+
+    // The ends close the blocks that are not indented too.
+    let repeats = (0..25).map(|open| indented(open, "repeat 2"));
+    let ends = (0..25).rev().map(|open| indented(open, "end"));
+    let text: String = repeats.chain(ends).collect();
+    is_listed(&[repeat(2).repeat(25), plain(END).repeat(25)].concat(), text.as_bytes());
+}
+
+/// Each script of examples/.
+#[test]
+fn round_trips() {
+    let folder = concat!(env!("CARGO_MANIFEST_DIR"), "/../../examples");
+    let mut scripts = 0;
+    for entry in std::fs::read_dir(folder).expect("the examples can be read") {
+        let path = entry.expect("the examples can be read").path();
+        if path.extension().is_some_and(|extension| extension == "script") {
+            round_trip(&std::fs::read(path).expect("the script can be read"));
+            scripts += 1;
+        }
+    }
+    assert!(scripts > 0);
+}
+
 #[test]
 fn empty_slices() {
+    assert_eq!(assemble(&[], &mut []), Ok(0));
+    assert_eq!(assemble(b"end", &mut []), Err(TextRefusal { number: refusal::RECORDS_TOO_SHORT, place: 0 }));
+    assert_eq!(list(&[], &mut []), Ok(0));
+    assert_eq!(list(&plain(script_kind::END), &mut []), Err(Refusal { number: refusal::TEXT_TOO_SHORT, place: 0 }));
     let mut image = vec![0; IMAGE_BYTES];
     assert_eq!(compile(&[], &mut image), Ok(1));
     assert_eq!(compile(&[], &mut []), Err(Refusal { number: refusal::BUFFER_TOO_SHORT, place: 0 }));

@@ -1,6 +1,7 @@
 pub mod Assembling
 pub mod Lines
 pub mod NoBadLine
+pub mod Refusing
 pub mod TextCorrect
 pub mod TextLines
 pub mod Writing

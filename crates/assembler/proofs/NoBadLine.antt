@@ -16,21 +16,19 @@ use Rattle.script.proofs.Flat.{stops}
 use Rattle.statement.specs.Line.{allFit, fitsFields, isLine, lineFault, lineRecords}
 use Rattle.mask.proofs.Every.{both}
 use Rattle.assembler.specs.Assemble.{badLine, firstBadLine, linesOf, recordsIn, textRecords}
+use Rattle.assembler.specs.TextCorrect.{Fit}
 use Rattle.assembler.proofs.TextLines.{AreLines}
 
 abbrev pub AreShort : List (List ℕ) → Type 0
 AreShort = All (λ l. length l ≤ 120)
 
-abbrev pub Fit : List Record → Type 0
-Fit = All (λ r. fitsFields r ≡ true)
-
 -- ---- one line
-record GoodLine (l : List ℕ) : Type 0 where
-  short : length l ≤ 120
-  is-line : isLine l ≡ true
-  fit : allFit (lineRecords l) ≡ true
+pub record Passes (l : List ℕ) : Type 0 where
+  pub short : length l ≤ 120
+  pub is-line : isLine l ≡ true
+  pub fit : allFit (lineRecords l) ≡ true
 
-good-line : (l : List ℕ) → lineFault l ≡ 0 → GoodLine l
+pub good-line : (l : List ℕ) → lineFault l ≡ 0 → Passes l
 unfolding lineFault
 good-line l h =
     let none = none-from (ltb 120 (length l) ∷ not (isLine l) ∷ not (allFit (lineRecords l)) ∷ []) 30 (omega arith) h in
@@ -45,11 +43,11 @@ unfolding lineFault
 faultless l s i f = rw (le-ltb 120 (length l) s, i, f)
 
 -- ---- all records of a list fit
-fit-append : (rs ss : List Record) → allFit rs ≡ true → Fit ss → Fit (rs ++ ss)
+pub fit-append : (rs ss : List Record) → allFit rs ≡ true → Fit ss → Fit (rs ++ ss)
 fit-append [] ss h t = t
 fit-append (r ∷ rs) ss h t = let b = both (fitsFields r) (allFit rs) h in (b .0, fit-append rs ss (b .1) t)
 
-fit-parts : (rs ss : List Record) → Fit (rs ++ ss) → (allFit rs ≡ true) × Fit ss
+pub fit-parts : (rs ss : List Record) → Fit (rs ++ ss) → (allFit rs ≡ true) × Fit ss
 fit-parts [] ss t = (refl, t)
 fit-parts (r ∷ rs) ss t =
     let i = fit-parts rs ss (t .1) in

@@ -14,6 +14,7 @@ use Rattle.assembler.specs.Assemble.{assembleResult, badLine, noRoom, re
 use Rattle.assembler.specs.Grammar.{Text}
 use Rattle.assembler.specs.TextCorrect.{Accepted, NoRefusal, TextCorrect, Written}
 use Rattle.assembler.proofs.NoBadLine.{good-text, no-bad-line}
+use Rattle.assembler.proofs.Refusing.{why-refused}
 use Rattle.assembler.proofs.TextLines.{one-reading, text-of, text-read}
 
 -- ---- 33: the buffer has room for the records, counted in records or in bytes
@@ -55,9 +56,9 @@ accepted text buffer h =
     record { records = textRecords text; inGrammar = t; noRefusal = r; written = accepts text buffer (textRecords text) t r }
 
 -- ---- a refused text leaves the buffer as it was
-refused : (text buffer : List ℕ) → (assembleResult text buffer .refusal ≡ 0 → ⊥) → recordsAfter text buffer ≡ buffer
+unchanged : (text buffer : List ℕ) → (assembleResult text buffer .refusal ≡ 0 → ⊥) → recordsAfter text buffer ≡ buffer
 unfolding assembleResult recordsAfter
-refused text buffer n = rw (ne-eqb (textRefusal text buffer .number) 0 n)
+unchanged text buffer n = rw (ne-eqb (textRefusal text buffer .number) 0 n)
 
 pub text-correct : TextCorrect
-text-correct = record { accepted = accepted; accepts = accepts; oneReading = λ text rs ss a b. one-reading a b; refused = refused }
+text-correct = record { accepted = accepted; accepts = accepts; oneReading = λ text rs ss a b. one-reading a b; refused = λ text buffer n. (why-refused text buffer n, unchanged text buffer n) }
