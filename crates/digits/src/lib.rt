@@ -1,5 +1,5 @@
-// Numbers and text in lines, for the programs `trace` and `replay`. Printing is proved to write the text that specs/Text.antt
-// defines, and reading to return what specs/Read.antt defines. What is printed is read back: see proofs/ReadBack.antt.
+// Numbers and text in lines. `statement` and `replay` read them; `lister`, `replay`, `trace_text` and `refusal_text` write them. Printing is proved to
+// write the text that specs/Text.antt defines, and reading to return what specs/Read.antt defines. What is printed is read back: see proofs/ReadBack.antt.
 ghost use mathlib.Core.Path.{_≡_};
 ghost use Prim.Native.Nat.{_+_, _%_, _^_, _<_};
 ghost use lib.Dec.{leb};

@@ -1,5 +1,5 @@
 // The record of 12 bytes that scripts and images share. See docs/CHIP.md, "Records".
-// `script` and `compiler` read the records of a script, `compiler` writes the words of an image, and `sequencer` reads them.
+// `script`, `compiler`, `interpreter` and `lister` read the records of a script, `assembler` writes them. `compiler` writes words, `sequencer` reads them.
 // `word_kind` has the kinds of words; the kinds of records are in `script`.
 pub mod word_kind;
 
