@@ -51,7 +51,7 @@ textRecords text = recordsIn (linesOf text)
 abbrev pub recordBytes : List Record → List ℕ
 recordBytes = imageBytes
 
--- "33 record buffer too short": it has room for fewer records
+-- "33 record buffer too short": it has room for fewer records than the text has
 abbrev pub noRoom : (text buffer : List ℕ) → Bool
 noRoom text buffer = ltb (length buffer / recordSize) (length (textRecords text))
 

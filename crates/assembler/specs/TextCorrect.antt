@@ -11,7 +11,7 @@ use Rattle.record.specs.declared.Record.{Record}
 use Rattle.statement.specs.Grammar.{Line}
 use Rattle.statement.specs.Line.{fitsFields}
 use Rattle.assembler.specs.Assemble.{assembleResult, linesOf, recordsAfter, withRecords}
-use Rattle.assembler.specs.Grammar.{Text}
+use Rattle.assembler.specs.Grammar.{Lines, Text}
 use Rattle.assembler.specs.declared.AssembleResult.{AssembleResult}
 
 -- every number of the records fits
@@ -64,6 +64,9 @@ pub data Refused (text buffer : List ℕ) : AssembleResult → Type 0 where
 -- ---- the theorem
 
 pub record TextCorrect : Type 0 where
+  -- `linesOf` gives the lines of every text, and a text is divided into lines in one way only
+  pub divided : (text : List ℕ) → Lines text (linesOf text)
+  pub oneDivision : (text : List ℕ) (ls : List (List ℕ)) → Lines text ls → ls ≡ linesOf text
   -- what is accepted is in the grammar, and has none of the refusals
   pub accepted : (text buffer : List ℕ) → assembleResult text buffer .refusal ≡ 0 → Accepted text buffer
   -- what is in the grammar and has none of the refusals is accepted, and its reading is what is written
