@@ -15,6 +15,7 @@ use Rattle.assembler.specs.Grammar.{Text}
 use Rattle.assembler.specs.TextCorrect.{Accepted, NoRefusal, TextCorrect, Written}
 use Rattle.assembler.proofs.NoBadLine.{good-text, no-bad-line}
 use Rattle.assembler.proofs.Refusing.{why-refused}
+use Rattle.assembler.proofs.ScriptRecords.{are-script}
 use Rattle.assembler.proofs.TextLines.{divided, one-division, one-reading, text-of, text-read}
 
 -- ---- 33: the buffer has room for the records, counted in records or in bytes
@@ -67,5 +68,6 @@ text-correct = record {
   accepted = accepted;
   accepts = accepts;
   oneReading = λ text rs ss a b. one-reading a b;
+  areScript = λ text rs t f. are-script t f;
   refused = λ text buffer n. (why-refused text buffer n, unchanged text buffer n);
 }

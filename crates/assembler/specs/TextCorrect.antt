@@ -8,9 +8,11 @@ use mathlib.Core.List.{List, _∷_}
 use lib.ListN.{length}
 use Rattle.lists.specs.All.{All}
 use Rattle.record.specs.declared.Record.{Record}
+use Rattle.script.specs.Records.{recordsOf}
+use Rattle.script.specs.Scan.{shapeFault}
 use Rattle.statement.specs.Grammar.{Line}
 use Rattle.statement.specs.Line.{fitsFields}
-use Rattle.assembler.specs.Assemble.{assembleResult, linesOf, recordsAfter, withRecords}
+use Rattle.assembler.specs.Assemble.{assembleResult, linesOf, recordBytes, recordsAfter, withRecords}
 use Rattle.assembler.specs.Grammar.{Lines, Text}
 use Rattle.assembler.specs.declared.AssembleResult.{AssembleResult}
 
@@ -38,6 +40,11 @@ pub record Accepted (text buffer : List ℕ) : Type 0 where
   pub inGrammar : Text text records
   pub noRefusal : NoRefusal text records buffer
   pub written : Written text records buffer
+
+-- "that reading becomes script records": the bytes of the records are read as these records, and none of them has the compiler's refusals 2 to 4
+pub record AreScript (rs : List Record) : Type 0 where
+  pub same : recordsOf (recordBytes rs) ≡ rs
+  pub faultless : All (λ r. shapeFault r ≡ 0) rs
 
 -- ---- refusals
 
@@ -73,6 +80,8 @@ pub record TextCorrect : Type 0 where
   pub accepts : (text buffer : List ℕ) (rs : List Record) → Text text rs → NoRefusal text rs buffer → Written text rs buffer
   -- a text has one reading
   pub oneReading : (text : List ℕ) (rs ss : List Record) → Text text rs → Text text ss → rs ≡ ss
+  -- records of the grammar whose numbers fit are script records
+  pub areScript : (text : List ℕ) (rs : List Record) → Text text rs → Fit rs → AreScript rs
   -- what is not accepted is refused for a reason, and leaves the buffer as it was
   pub refused : (text buffer : List ℕ) → (assembleResult text buffer .refusal ≡ 0 → ⊥)
       → Refused text buffer (assembleResult text buffer) × (recordsAfter text buffer ≡ buffer)
