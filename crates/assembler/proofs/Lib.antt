@@ -1,4 +1,5 @@
 pub mod Assembling
+pub mod FindLine
 pub mod Lines
 pub mod NoBadLine
 pub mod Refusing
