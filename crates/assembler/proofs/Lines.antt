@@ -5,7 +5,7 @@ use mathlib.Core.Bool.{Bool, true, false, cond, not, _&&_}
 use mathlib.Core.List.{List, [], _∷_}
 use native.Mathlib.Omega.{arith}
 use lib.Dec.{eqb}
-use lib.ListN.{drop, getD, length, length-drop, take}
+use lib.ListN.{drop, length, length-drop, take}
 use lib.Seq.{drop-drop}
 use Rattle.statement.proofs.Runs.{run-inside}
 use Rattle.statement.specs.Line.{notSemicolon, run}
@@ -99,22 +99,3 @@ next-after text at end next h l m e =
     let b = length-drop (suc end) text in
     let c : length (drop next text) ≡ length (drop (suc end) text) = ap length e in
     omega (arith, a, b, c)
-
--- ---- the line with a number
-pub at-line : (t : List ℕ) → getD (linesOf t) 0 [] ≡ firstLine t
-at-line [] = refl
-at-line (b ∷ bs) = ap (λ (ls : List (List ℕ)). getD ls 0 []) (lines-split b bs)
-
--- no line is left, so the line is empty
-pub at-last : (t : List ℕ) (n : ℕ) → length t ≤ 0 → getD (linesOf t) n [] ≡ firstLine t
-at-last [] n h = refl
-at-last (b ∷ bs) n h = absurd (omega (arith, h))
-
-pub next-line-is : (t : List ℕ) (n : ℕ) → 0 < length t → getD (linesOf t) (suc n) [] ≡ getD (otherLines t) n []
-next-line-is t n h = ap (λ (ls : List (List ℕ)). getD ls (suc n) []) (some-line t h)
-
-pub after-line : (text : List ℕ) (at end : ℕ) → end ≡ at + run notLineFeed (drop at text)
-    → drop (suc end) text ≡ drop (suc (run notLineFeed (drop at text))) (drop at text)
-after-line text at end e =
-    let k : suc end ≡ at + suc (run notLineFeed (drop at text)) = omega (arith, e) in
-    ap (λ (j : ℕ). drop j text) k ∙ sym (drop-drop (suc (run notLineFeed (drop at text))) at text)

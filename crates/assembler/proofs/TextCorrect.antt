@@ -15,7 +15,8 @@ use Rattle.assembler.specs.Grammar.{Text}
 use Rattle.assembler.specs.TextCorrect.{Accepted, NoRefusal, TextCorrect, Written}
 use Rattle.assembler.proofs.NoBadLine.{good-text, no-bad-line}
 use Rattle.assembler.proofs.Refusing.{why-refused}
-use Rattle.assembler.proofs.TextLines.{one-reading, text-of, text-read}
+use Rattle.assembler.proofs.ScriptRecords.{are-script}
+use Rattle.assembler.proofs.TextLines.{divided, one-division, one-reading, text-of, text-read}
 
 -- ---- 33: the buffer has room for the records, counted in records or in bytes
 room : (text buffer : List ℕ) → 12 * length (textRecords text) ≤ length buffer → noRoom text buffer ≡ false
@@ -61,4 +62,12 @@ unfolding assembleResult recordsAfter
 unchanged text buffer n = rw (ne-eqb (textRefusal text buffer .number) 0 n)
 
 pub text-correct : TextCorrect
-text-correct = record { accepted = accepted; accepts = accepts; oneReading = λ text rs ss a b. one-reading a b; refused = λ text buffer n. (why-refused text buffer n, unchanged text buffer n) }
+text-correct = record {
+  divided = divided;
+  oneDivision = λ text ls d. one-division d;
+  accepted = accepted;
+  accepts = accepts;
+  oneReading = λ text rs ss a b. one-reading a b;
+  areScript = λ text rs t f. are-script t f;
+  refused = λ text buffer n. (why-refused text buffer n, unchanged text buffer n);
+}

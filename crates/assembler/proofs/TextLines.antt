@@ -12,26 +12,20 @@ use Rattle.statement.specs.Line.{isLine}
 use Rattle.statement.proofs.Complete.{complete}
 use Rattle.statement.proofs.Sound.{sound}
 use Rattle.assembler.specs.Assemble.{inFirst, linesOf, recordsIn, textRecords}
-use Rattle.assembler.specs.Grammar.{NoLineFeed, Text}
+use Rattle.assembler.specs.Grammar.{Lines, NoLineFeed, Text}
 
 -- each of the lines is in the grammar
 abbrev pub AreLines : List (List ℕ) → Type 0
 AreLines = All (λ l. isLine l ≡ true)
 
 -- ---- the lines of a text
--- a text that is divided into lines, as in the grammar
-data Lines : List ℕ → List (List ℕ) → Type 0 where
-  end : Lines [] []
-  last : {b : ℕ} {bs : List ℕ} → NoLineFeed (b ∷ bs) → Lines (b ∷ bs) ((b ∷ bs) ∷ [])
-  line : {l t : List ℕ} {ls : List (List ℕ)} → NoLineFeed l → Lines t ls → Lines (l ++ (0x0A ∷ t)) (l ∷ ls)
-
 one-more : {b : ℕ} {t : List ℕ} {ls : List (List ℕ)} → (b ≡ 0x0A → ⊥) → Lines t ls → Lines (b ∷ t) (inFirst b ls)
 one-more {b} n Lines.end = Lines.last (n, tt)
 one-more {b} n (Lines.last f) = Lines.last (n, f)
 one-more {b} n (Lines.line {l} f s) = Lines.line {l = b ∷ l} (n, f) s
 
 -- `linesOf` divides every text
-divided : (t : List ℕ) → Lines t (linesOf t)
+pub divided : (t : List ℕ) → Lines t (linesOf t)
 divided [] = Lines.end
 divided (b ∷ t) = pick (eqb b 0x0A) refl (divided t)
   where
@@ -47,6 +41,11 @@ line-of (b ∷ l) t f = rw (ne-eqb b 0x0A (f .0), line-of l t (f .1))
 last-of : (b : ℕ) (bs : List ℕ) → NoLineFeed (b ∷ bs) → linesOf (b ∷ bs) ≡ (b ∷ bs) ∷ []
 last-of b [] f = rw (ne-eqb b 0x0A (f .0))
 last-of b (c ∷ bs) f = rw (ne-eqb b 0x0A (f .0), last-of c bs (f .1))
+
+pub one-division : {t : List ℕ} {ls : List (List ℕ)} → Lines t ls → ls ≡ linesOf t
+one-division Lines.end = refl
+one-division (Lines.last {b} {bs} f) = sym (last-of b bs f)
+one-division (Lines.line {l} {t} f s) = rw (line-of l t f, ← one-division s)
 
 -- ---- the laws
 pub text-read : {t : List ℕ} {rs : List Record} → Text t rs → AreLines (linesOf t) × (textRecords t ≡ rs)

@@ -1,5 +1,5 @@
 -- What the assembler returns, and what it writes. See docs/TEXT.md, "Reading: refusals".
-use Prim.Native.Nat.{ℕ, suc, _-_, _*_, _/_, _≤_}
+use Prim.Native.Nat.{ℕ, zero, suc, _+_, _-_, _*_, _/_, _≤_, _<_}
 use mathlib.Core.Path.{_≡_}
 use mathlib.Core.Bool.{Bool, false, cond, not, _&&_}
 use mathlib.Core.List.{List, [], _∷_, _++_}
@@ -51,7 +51,7 @@ textRecords text = recordsIn (linesOf text)
 abbrev pub recordBytes : List Record → List ℕ
 recordBytes = imageBytes
 
--- "33 record buffer too short": it has room for fewer records
+-- "33 record buffer too short": it has room for fewer records than the text has
 abbrev pub noRoom : (text buffer : List ℕ) → Bool
 noRoom text buffer = ltb (length buffer / recordSize) (length (textRecords text))
 
@@ -103,8 +103,16 @@ pub record LinesRead (text buffer after : List ℕ) (r : AssembleResult) : Type 
   pub lent : length after ≡ length buffer
   pub written : badLine text .number ≡ 0 → noRoom text buffer ≡ false → after ≡ withRecords (textRecords text) buffer
 
--- the line with this number; after the last line it is empty
+-- where the line with this number starts: after the lines before it, each with its line feed
+abbrev pub lineStart : (place : ℕ) → List (List ℕ) → ℕ
+lineStart zero ls = 0
+lineStart (suc place) [] = 0
+lineStart (suc place) (l ∷ ls) = suc (length l) + lineStart place ls
+
+-- the line with this number. After the last line it is empty, at the end of the text
 pub record LineAt (text : List ℕ) (place : ℕ) (span : LineSpan) : Type 0 where
   pub ordered : span .from ≤ span .to
   pub inside : span .to ≤ length text
   pub line : take (span .to - span .from) (drop (span .from) text) ≡ getD (linesOf text) place []
+  pub starts : place < length (linesOf text) → span .from ≡ lineStart place (linesOf text)
+  pub afterLast : length (linesOf text) ≤ place → span .from ≡ length text

@@ -8,10 +8,12 @@ use mathlib.Core.List.{List, _∷_}
 use lib.ListN.{length}
 use Rattle.lists.specs.All.{All}
 use Rattle.record.specs.declared.Record.{Record}
+use Rattle.script.specs.Records.{recordsOf}
+use Rattle.script.specs.Scan.{shapeFault}
 use Rattle.statement.specs.Grammar.{Line}
 use Rattle.statement.specs.Line.{fitsFields}
-use Rattle.assembler.specs.Assemble.{assembleResult, linesOf, recordsAfter, withRecords}
-use Rattle.assembler.specs.Grammar.{Text}
+use Rattle.assembler.specs.Assemble.{assembleResult, linesOf, recordBytes, recordsAfter, withRecords}
+use Rattle.assembler.specs.Grammar.{Lines, Text}
 use Rattle.assembler.specs.declared.AssembleResult.{AssembleResult}
 
 -- every number of the records fits
@@ -39,6 +41,11 @@ pub record Accepted (text buffer : List ℕ) : Type 0 where
   pub noRefusal : NoRefusal text records buffer
   pub written : Written text records buffer
 
+-- "that reading becomes script records": the bytes of the records are read as these records, and none of them has the compiler's refusals 2 to 4
+pub record AreScript (rs : List Record) : Type 0 where
+  pub same : recordsOf (recordBytes rs) ≡ rs
+  pub faultless : All (λ r. shapeFault r ≡ 0) rs
+
 -- ---- refusals
 
 pub data GoodLine (l : List ℕ) : Type 0 where
@@ -64,12 +71,17 @@ pub data Refused (text buffer : List ℕ) : AssembleResult → Type 0 where
 -- ---- the theorem
 
 pub record TextCorrect : Type 0 where
+  -- `linesOf` gives the lines of every text, and a text is divided into lines in one way only
+  pub divided : (text : List ℕ) → Lines text (linesOf text)
+  pub oneDivision : (text : List ℕ) (ls : List (List ℕ)) → Lines text ls → ls ≡ linesOf text
   -- what is accepted is in the grammar, and has none of the refusals
   pub accepted : (text buffer : List ℕ) → assembleResult text buffer .refusal ≡ 0 → Accepted text buffer
   -- what is in the grammar and has none of the refusals is accepted, and its reading is what is written
   pub accepts : (text buffer : List ℕ) (rs : List Record) → Text text rs → NoRefusal text rs buffer → Written text rs buffer
   -- a text has one reading
   pub oneReading : (text : List ℕ) (rs ss : List Record) → Text text rs → Text text ss → rs ≡ ss
+  -- records of the grammar whose numbers fit are script records
+  pub areScript : (text : List ℕ) (rs : List Record) → Text text rs → Fit rs → AreScript rs
   -- what is not accepted is refused for a reason, and leaves the buffer as it was
   pub refused : (text buffer : List ℕ) → (assembleResult text buffer .refusal ≡ 0 → ⊥)
       → Refused text buffer (assembleResult text buffer) × (recordsAfter text buffer ≡ buffer)
