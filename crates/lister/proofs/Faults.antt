@@ -1,7 +1,7 @@
 -- `scriptFault` finds nothing exactly if a script meets none of refusals 1 to 4. If the compiler gives one of them or none, it finds the same,
 -- because the compiler looks for the same faults of a record first, and then for 5 and 6.
 use Prim.Native.Nat.{ℕ, zero, suc, _%_, _≤_}
-use mathlib.Core.Path.{_≡_, refl, _∙_, ap, sym}
+use mathlib.Core.Path.{_≡_, refl, _∙_, ap}
 use mathlib.Core.Bool.{Bool, true, false, cond, not}
 use mathlib.Core.List.{List, [], _∷_}
 use borrow.Author.Tests.{eqb-false, eqb-true, ne-eqb, not-false}

@@ -177,7 +177,7 @@ statement-most r =
     either true xs ys h k = h
     either false xs ys h k = k
 
-line-most : (depth : ℕ) (r : Record) → length (lineText depth r) ≤ 87
+pub line-most : (depth : ℕ) (r : Record) → length (lineText depth r) ≤ 87
 unfolding lineText
 line-most depth r =
     let m = margin-most depth (r .kind) in

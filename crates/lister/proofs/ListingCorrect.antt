@@ -1,5 +1,6 @@
 -- Every script that meets none of the refusals 1 to 4 has a listing, and reading the listing gives the script, byte for byte. The listing is a text
--- of the grammar, so it is read with the records that it lists, and their bytes are the script.
+-- of the grammar, so it is read with the records that it lists, and their bytes are the script. The refusals are in `Refusing`, and the compiler's
+-- in `Faults`.
 use Prim.Native.Nat.{ℕ, zero, suc, _*_, _/_, _≤_, _<_}
 use mathlib.Core.Path.{_≡_, _∙_}
 use mathlib.Core.Bool.{true}
@@ -24,7 +25,7 @@ use Rattle.lister.proofs.Bytes.{AreBytes, port-fits, script-bytes}
 use Rattle.lister.proofs.Faults.{Faultless, as-the-compiler, compiled, faultless, no-refusal, whole}
 use Rattle.lister.proofs.Lengths.{lines-most}
 use Rattle.lister.proofs.ListingText.{listing-short, listing-text}
-use Rattle.lister.proofs.Refusing.{accepted, unchanged, why-refused}
+use Rattle.lister.proofs.Refusing.{accepted, same-refusal, unchanged, why-refused}
 use Rattle.lister.proofs.Shaped.{Shaped, fits, shaped}
 
 -- ---- the records of a script
@@ -88,6 +89,7 @@ longest : (script : List ℕ) → length (listing script) ≤ 88 * recordCount s
 unfolding listing
 longest script = let n = records-length script in let l = lines-most 0 (recordsOf script) in omega (arith, n, l)
 
+-- ---- the theorem
 pub listings-correct : ListingsCorrect
 listings-correct =
     record {
@@ -95,6 +97,7 @@ listings-correct =
       accepted = accepted;
       refused = λ script buffer n. (why-refused script buffer n, unchanged script buffer n);
       asTheCompiler = as-the-compiler;
+      sameRefusal = same-refusal;
       compiled = compiled;
       longest = longest;
     }

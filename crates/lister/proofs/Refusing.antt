@@ -13,12 +13,11 @@ use Rattle.outcome.specs.Refusal.{refusal}
 use Rattle.outcome.specs.declared.Refusal.{Refusal}
 use Rattle.record.specs.declared.Record.{Record}
 use Rattle.script.specs.Records.{recordsOf}
-use Rattle.script.specs.Refusals.{badFields, badKind, badLength, wrongMark}
+use Rattle.script.specs.Refusals.{badFields, badKind, badLength, scriptRefusal, wrongMark}
 use Rattle.script.specs.Scan.{shapeFault}
 use Rattle.lister.specs.Listing.{answer, firstWrong, listRefusal, listResult, listing, refusedAt, scriptFault, textAfter}
 use Rattle.lister.specs.ListingCorrect.{Accepted, FirstWrongRecord, Refused, WrongRecord}
-use Rattle.lister.specs.declared.ListResult.{ListResult}
-use Rattle.lister.proofs.Faults.{good-record, none-of}
+use Rattle.lister.proofs.Faults.{as-the-compiler, good-record, none-of}
 
 -- ---- one record
 wrong-record : (r : Record) → (shapeFault r ≡ 0 → ⊥) → WrongRecord r (shapeFault r)
@@ -86,6 +85,12 @@ module _ (script buffer : List ℕ) where
   pub unchanged : (listResult script buffer .refusal ≡ 0 → ⊥) → textAfter script buffer ≡ buffer
   unfolding listResult textAfter
   unchanged n = rw (ne-eqb (listRefusal script buffer .number) 0 n)
+
+  -- refusals 1 to 4 of the compiler
+  pub same-refusal : (scriptRefusal script .number ≡ 0 → ⊥) → scriptRefusal script .number ≤ 4
+      → listResult script buffer ≡ refusedAt (scriptRefusal script .number) (scriptRefusal script .place)
+  unfolding listResult listRefusal
+  same-refusal n l = let z = ne-eqb (scriptRefusal script .number) 0 n in rw (as-the-compiler script l, z, z)
 
   pub accepted : listResult script buffer .refusal ≡ 0 → Accepted script buffer
   unfolding listResult listRefusal

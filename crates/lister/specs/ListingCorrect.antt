@@ -45,7 +45,7 @@ pub data Refused (script buffer : List ℕ) : ListResult → Type 0 where
 
 -- ---- the listing of a script
 
--- it exists: it is written to every buffer that is long enough, and the rest of the buffer is as it was
+-- it exists: it is written to every buffer that is long enough; "success leaves the rest as lent"
 pub record Listed (script buffer : List ℕ) : Type 0 where
   pub answer : listResult script buffer ≡ record { refusal = 0; place = 0; length = length (listing script) }
   pub after : textAfter script buffer ≡ listing script ++ drop (length (listing script)) buffer
@@ -73,11 +73,14 @@ pub record ListingsCorrect : Type 0 where
   pub listings : (script : List ℕ) → All (λ b. b < 256) script → NoneOf1To4 script → ListingCorrect script
   -- what is accepted has none of the refusals
   pub accepted : (script buffer : List ℕ) → listResult script buffer .refusal ≡ 0 → Accepted script buffer
-  -- what is not accepted is refused for a reason; "a refusal writes to no lent buffer, and success leaves the rest as lent"
+  -- what is not accepted is refused for a reason; "a refusal writes to no lent buffer"
   pub refused : (script buffer : List ℕ) → (listResult script buffer .refusal ≡ 0 → ⊥)
       → Refused script buffer (listResult script buffer) × (textAfter script buffer ≡ buffer)
-  -- 1 to 4 are those of the compiler: if it gives one of them or none, the lister finds the same, at the same place
+  -- if the compiler's refusal of a script is none or one of 1 to 4, the lister finds the same, at the same place
   pub asTheCompiler : (script : List ℕ) → scriptRefusal script .number ≤ 4 → scriptFault script ≡ scriptRefusal script
+  -- so it answers with the compiler's refusal 1 to 4, whatever the buffer
+  pub sameRefusal : (script buffer : List ℕ) → (scriptRefusal script .number ≡ 0 → ⊥) → scriptRefusal script .number ≤ 4
+      → listResult script buffer ≡ refusedAt (scriptRefusal script .number) (scriptRefusal script .place)
   -- every script that the compiler accepts has a listing
   pub compiled : (script : List ℕ) → scriptRefusal script .number ≡ 0 → NoneOf1To4 script
   -- how large a buffer has to be: a line has at most 64 spaces, the 23 bytes of a write at width 4, and the line feed
