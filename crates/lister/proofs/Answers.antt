@@ -1,20 +1,13 @@
 -- The answer of `list`, from the answer of `measure`: a fault of the script comes first, then a buffer that is too short.
-use Prim.Native.Nat.{ℕ, suc, _≤_, _<_}
-use mathlib.Core.Path.{_≡_, refl, ap, sym, _∙_}
-use mathlib.Core.Bool.{Bool, true, false, cond}
-use mathlib.Core.List.{List, [], _∷_}
-use native.Mathlib.Omega.{arith}
-use borrow.Author.Tests.{eqb-false, le-ltb, lt-ltb, ne-eqb}
+use Prim.Native.Nat.{ℕ, _≤_, _<_}
+use mathlib.Core.Path.{_≡_, ap, sym, _∙_}
+use mathlib.Core.Bool.{false}
+use mathlib.Core.List.{List}
+use borrow.Author.Tests.{le-ltb, lt-ltb, ne-eqb}
 use lib.Dec.{eqb}
 use lib.ListN.{length}
 use Rattle.outcome.specs.Refusal.{refusal}
-use Rattle.outcome.specs.declared.Refusal.{Refusal}
-use Rattle.record.specs.declared.Record.{Record}
-use Rattle.script.specs.Records.{recordsOf}
-use Rattle.script.specs.Refusals.{badLength}
-use Rattle.script.specs.Scan.{shapeFault}
 use Rattle.lister.specs.Listing.{
-  firstWrong,
   listRefusal,
   listResult,
   listing,
@@ -25,25 +18,11 @@ use Rattle.lister.specs.Listing.{
   withText,
 }
 use Rattle.lister.specs.declared.ListResult.{ListResult}
+use Rattle.lister.proofs.Faults.{no-refusal, none-of}
 
 -- without a fault, the place is 0 too
-none-wrong : (place : ℕ) (rs : List Record) → firstWrong place rs .number ≡ 0 → firstWrong place rs ≡ refusal 0 0
-none-wrong place [] h = refl
-none-wrong place (r ∷ rs) h = pick (eqb (shapeFault r) 0) refl (firstWrong (suc place) rs) (none-wrong (suc place) rs) h
-  where
-    pick : (b : Bool) → eqb (shapeFault r) 0 ≡ b → (f : Refusal) → (f .number ≡ 0 → f ≡ refusal 0 0)
-        → cond b f (refusal (shapeFault r) place) .number ≡ 0 → cond b f (refusal (shapeFault r) place) ≡ refusal 0 0
-    pick true t f k e = k e
-    pick false t f k e = absurd (eqb-false (shapeFault r) 0 t e)
-
 pub no-fault : (script : List ℕ) → scriptFault script .number ≡ 0 → scriptFault script ≡ refusal 0 0
-unfolding scriptFault
-no-fault script h = pick (badLength script) h
-  where
-    pick : (b : Bool) → cond b (refusal 1 0) (firstWrong 0 (recordsOf script)) .number ≡ 0
-        → cond b (refusal 1 0) (firstWrong 0 (recordsOf script)) ≡ refusal 0 0
-    pick true e = absurd (omega (arith, e))
-    pick false e = none-wrong 0 (recordsOf script) e
+no-fault script h = no-refusal script (none-of script h)
 
 module _ (script buffer : List ℕ) (found : ListResult) (e : found ≡ measured script) where
   number-is : found .refusal ≡ scriptFault script .number

@@ -6,7 +6,7 @@ use mathlib.Core.List.{List, [], _∷_, _++_}
 use native.Mathlib.Omega.{arith}
 use borrow.Author.Tests.{le-leb, leb-true, lt-leb, ne-eqb}
 use lib.Dec.{eqb, leb}
-use lib.ListN.{length, length-append}
+use lib.ListN.{length, length-append, length-replicate}
 use Rattle.digits.proofs.Puts.{decimal-length}
 use Rattle.digits.specs.Text.{byteText, decimalText, hexText}
 use Rattle.record.specs.declared.Record.{Record}
@@ -17,7 +17,10 @@ use Rattle.lister.specs.Listing.{
   bytesLength,
   bytesText,
   countText,
+  depthAfter,
   lineDepth,
+  lineText,
+  listingFrom,
   marginLength,
   pairText,
   statementText,
@@ -173,3 +176,20 @@ statement-most r =
     either : (b : Bool) (xs ys : List ℕ) → length xs ≤ 23 → length ys ≤ 23 → length (cond b xs ys) ≤ 23
     either true xs ys h k = h
     either false xs ys h k = k
+
+pub line-most : (depth : ℕ) (r : Record) → length (lineText depth r) ≤ 87
+unfolding lineText
+line-most depth r =
+    let m = margin-most depth (r .kind) in
+    let s = statement-most r in
+    simp (length-append, length-replicate) (omega arith)
+
+-- with the line feed, 88 bytes for each record
+pub lines-most : (depth : ℕ) (rs : List Record) → length (listingFrom depth rs) ≤ 88 * length rs
+lines-most depth [] = omega arith
+lines-most depth (r ∷ rs) =
+    let rest = listingFrom (depthAfter depth (r .kind)) rs in
+    let a = length-append (lineText depth r) (0x0A ∷ rest) in
+    let l = line-most depth r in
+    let h = lines-most (depthAfter depth (r .kind)) rs in
+    omega (arith, a, l, h)

@@ -10,4 +10,5 @@ pub mod ListingText
 pub mod Numbers
 pub mod Pieces
 pub mod Records
+pub mod Refusing
 pub mod Shaped

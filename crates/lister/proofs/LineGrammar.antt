@@ -1,19 +1,14 @@
 -- A line of a listing is a line of the grammar with its one record, has no line feed in it and at most 120 bytes. Its statement is built with the
 -- constructors of the grammar, from the numbers that are written and single spaces.
-use Prim.Native.Nat.{ℕ, zero, suc, _*_, _≤_}
-use mathlib.Core.Path.{_≡_, refl}
-use mathlib.Core.Bool.{Bool, true, false, cond}
+use Prim.Native.Nat.{ℕ, zero, suc, _≤_}
 use mathlib.Core.List.{[], _∷_, append-nil}
-use borrow.Author.Tests.{leb-true}
-use lib.Dec.{leb}
-use lib.ListN.{length, length-append, length-replicate, replicate}
+use lib.ListN.{length, replicate}
 use native.Mathlib.Omega.{arith}
 use Rattle.assembler.specs.Grammar.{NoLineFeed}
-use Rattle.digits.proofs.Puts.{decimal-length}
 use Rattle.record.specs.declared.Record.{Record}
 use Rattle.statement.specs.Grammar.{Blank, Blanks, Comment, Gap, Line, Number, Return, Statement}
-use Rattle.lister.specs.Listing.{lineDepth, lineText, marginLength, statementText, valueText, widthText}
-use Rattle.lister.proofs.Lengths.{margin-most}
+use Rattle.lister.specs.Listing.{lineText, marginLength, statementText, valueText, widthText}
+use Rattle.lister.proofs.Lengths.{line-most}
 use Rattle.lister.proofs.LineFeeds.{no-line-feed}
 use Rattle.lister.proofs.Numbers.{byte-number, count-number, four-number, pair-number, port-number, width-number}
 use Rattle.lister.proofs.Shaped.{Shaped, Sized}
@@ -42,22 +37,6 @@ statement (Shaped.if {p = p} s h) = Statement.if space (width-text s) space (por
 statement Shaped.else = Statement.else
 statement Shaped.end = Statement.end
 
--- ---- its length
-value-length : {w v : ℕ} → Sized w v → length (valueText w v) ≤ 9
-value-length (Sized.one h) = omega arith
-value-length (Sized.two h) = omega arith
-value-length (Sized.four h) = omega arith
-
-statement-length : {r : Record} → Shaped r → length (statementText r) ≤ 56
-unfolding statementText
-statement-length (Shaped.write s h) = let l = value-length s in omega arith
-statement-length (Shaped.read s h) = omega arith
-statement-length (Shaped.delay {n} h) = let l = decimal-length n in omega arith
-statement-length (Shaped.repeat {n} h) = let l = decimal-length n in omega arith
-statement-length (Shaped.if s h) = let l = value-length s in omega arith
-statement-length Shaped.else = omega arith
-statement-length Shaped.end = omega arith
-
 -- ---- the margin
 spaces : (n : ℕ) → Blanks (replicate n 0x20)
 spaces zero = Blanks.none
@@ -76,8 +55,4 @@ module _ (depth : ℕ) {r : Record} (s : Shaped r) where
   clear = no-line-feed (spaces (marginLength depth (r .kind))) (statement s)
 
   pub short : length (lineText depth r) ≤ 120
-  unfolding lineText
-  short =
-      let l = margin-most depth (r .kind) in
-      let m = statement-length s in
-      simp (length-append, length-replicate) (omega arith)
+  short = let l = line-most depth r in omega arith

@@ -1,9 +1,10 @@
 -- Every script that meets none of the refusals 1 to 4 has a listing, and reading the listing gives the script, byte for byte. The listing is a text
--- of the grammar, so it is read with the records that it lists, and their bytes are the script.
+-- of the grammar, so it is read with the records that it lists, and their bytes are the script. The refusals are in `Refusing`, and the compiler's
+-- in `Faults`.
 use Prim.Native.Nat.{ℕ, zero, suc, _*_, _/_, _≤_, _<_}
-use mathlib.Core.Path.{_≡_, refl, ap, _∙_}
+use mathlib.Core.Path.{_≡_, _∙_}
 use mathlib.Core.Bool.{true}
-use mathlib.Core.List.{List, []}
+use mathlib.Core.List.{List}
 use borrow.Author.Tests.{le-ltb}
 use lib.ListN.{length}
 use native.Mathlib.Omega.{arith}
@@ -14,22 +15,20 @@ use Rattle.assembler.proofs.TextCorrect.{text-correct}
 use Rattle.lists.specs.All.{All}
 use Rattle.record.specs.Record.{recordAt}
 use Rattle.record.specs.declared.Record.{Record}
-use Rattle.script.specs.Records.{recordsFrom, recordsOf}
+use Rattle.script.specs.Records.{recordCount, recordsFrom, recordsOf}
 use Rattle.script.specs.Scan.{shapeFault}
-use Rattle.script.proofs.Flat.{accepts}
+use Rattle.script.proofs.Grammar.{records-length}
 use Rattle.statement.specs.Line.{fitsFields}
-use Rattle.lister.specs.Listing.{listRefusal, listResult, listing, scriptFault, textAfter, withText}
-use Rattle.lister.specs.ListingCorrect.{CompiledScriptsHaveListings, Listed, ListingsCorrect, ReadBack}
+use Rattle.lister.specs.Listing.{listRefusal, listResult, listing, textAfter, withText}
+use Rattle.lister.specs.ListingCorrect.{Listed, ListingCorrect, ListingsCorrect, NoneOf1To4, ReadBack}
 use Rattle.lister.proofs.Bytes.{AreBytes, port-fits, script-bytes}
-use Rattle.lister.proofs.Faults.{Faultless, checked, no-place, of-compiler}
+use Rattle.lister.proofs.Faults.{Faultless, as-the-compiler, compiled, faultless, no-refusal, whole}
+use Rattle.lister.proofs.Lengths.{lines-most}
 use Rattle.lister.proofs.ListingText.{listing-short, listing-text}
+use Rattle.lister.proofs.Refusing.{accepted, same-refusal, unchanged, why-refused}
 use Rattle.lister.proofs.Shaped.{Shaped, fits, shaped}
 
 -- ---- the records of a script
-records-length : (n place : ℕ) (bytes : List ℕ) → length (recordsFrom n place bytes) ≡ n
-records-length zero place bytes = refl
-records-length (suc n) place bytes = ap suc (records-length n (suc place) bytes)
-
 -- every port fits, so what follows from that and from no fault of its own holds for every record
 each-record :
     (P : Record → Type 0) → ((r : Record) → shapeFault r ≡ 0 → r .port < 65536 → P r) → (bytes : List ℕ) → AreBytes bytes
@@ -38,21 +37,20 @@ each-record P f bytes h zero place t = tt
 each-record P f bytes h (suc n) place t =
     (f (recordAt bytes (12 * place)) (t .0) (port-fits bytes h (12 * place)), each-record P f bytes h n (suc place) (t .1))
 
-module _ (script : List ℕ) (are : AreBytes script) (none : scriptFault script .number ≡ 0) where
+module _ (script : List ℕ) (are : AreBytes script) (none : NoneOf1To4 script) where
   of-each : (P : Record → Type 0) → ((r : Record) → shapeFault r ≡ 0 → r .port < 65536 → P r) → All P (recordsOf script)
   unfolding recordsOf
-  of-each P f = each-record P f script are (length script / 12) 0 (checked script none .faultless)
+  of-each P f = each-record P f script are (length script / 12) 0 (faultless (recordsOf script) (none .goodRecords))
 
   count : length (recordsOf script) ≡ length script / 12
-  unfolding recordsOf
-  count = records-length (length script / 12) 0 script
+  count = records-length script
 
   -- ---- the listing is written
   listed : (buffer : List ℕ) → length (listing script) ≤ length buffer → Listed script buffer
   unfolding listResult listRefusal textAfter withText
   listed buffer l =
       let room = le-ltb (length buffer) (length (listing script)) l in
-      record { answer = rw (no-place script none, room); after = rw (no-place script none, room) }
+      record { answer = rw (no-refusal script none, room); after = rw (no-refusal script none, room) }
 
   -- ---- it is read back
   are-shaped : All Shaped (recordsOf script)
@@ -69,7 +67,7 @@ module _ (script : List ℕ) (are : AreBytes script) (none : scriptFault script 
   read-back : (buffer : List ℕ) → length script ≤ length buffer → ReadBack script buffer
   unfolding withRecords
   read-back buffer l =
-      let whole = checked script none .whole in
+      let whole = whole script none in
       let fit = of-each (λ r. fitsFields r ≡ true) fits in
       let room : 12 * length (recordsOf script) ≤ length buffer = rw count (omega arith) in
       let n : NoRefusal (listing script) (recordsOf script) buffer = record { shortLines = short-lines; numbersFit = fit; room = room } in
@@ -77,8 +75,8 @@ module _ (script : List ℕ) (are : AreBytes script) (none : scriptFault script 
       let all : 12 * (length script / 12) ≡ length script = omega arith in
       record { answer = w .answer ∙ rw count; after = w .after ∙ rw (script-bytes script are whole, count, all) }
 
-pub listings-correct : ListingsCorrect
-listings-correct script are none =
+listings : (script : List ℕ) → AreBytes script → NoneOf1To4 script → ListingCorrect script
+listings script are none =
     record {
       listed = listed script are none;
       inGrammar = in-grammar script are none;
@@ -86,8 +84,20 @@ listings-correct script are none =
       readBack = read-back script are none;
     }
 
-pub compiled-have-listings : CompiledScriptsHaveListings
-unfolding scriptFault
-compiled-have-listings script h =
-    let a = accepts script h in
-    rw (a .length-good) (of-compiler (recordsOf script) [] 0 (a .faultless))
+-- ---- its size
+longest : (script : List ℕ) → length (listing script) ≤ 88 * recordCount script
+unfolding listing
+longest script = let n = records-length script in let l = lines-most 0 (recordsOf script) in omega (arith, n, l)
+
+-- ---- the theorem
+pub listings-correct : ListingsCorrect
+listings-correct =
+    record {
+      listings = listings;
+      accepted = accepted;
+      refused = λ script buffer n. (why-refused script buffer n, unchanged script buffer n);
+      asTheCompiler = as-the-compiler;
+      sameRefusal = same-refusal;
+      compiled = compiled;
+      longest = longest;
+    }
