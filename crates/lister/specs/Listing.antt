@@ -50,7 +50,7 @@ portText p = pairText p ++ (0x68 ∷ [])
 abbrev pub bytesText : (width value : ℕ) → List ℕ
 bytesText w v = cond (eqb w 1) (byteText (v % 256)) (cond (eqb w 2) (pairText v) (hexText v))
 
--- their number
+-- how many digits that is
 abbrev pub bytesLength : (width : ℕ) → ℕ
 bytesLength w = cond (eqb w 1) 2 (cond (eqb w 2) 4 8)
 

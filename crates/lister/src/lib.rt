@@ -40,7 +40,7 @@ pub struct ListResult {
 // The spaces for a block.
 const INDENT: usize = 4;
 
-// Blocks further in are not indented any further, so that no line is too long. No script that the compiler accepts has more.
+// Blocks further in are not indented any further, so that no line is too long. No script that the compiler accepts has more than 16 open blocks.
 const MOST_INDENTED: usize = 16;
 
 // ---- the margin of a line; `depth` is the number of blocks that are open before its record

@@ -1,5 +1,5 @@
 -- The grammar of one line of a text script, and the record that a statement means. See docs/TEXT.md, "The grammar". The productions are those of
--- that page, in its order. They say which lines there are; how a line is read is in Line.antt.
+-- that page, from blanks up to lines. They say which lines there are; how a line is read is in Line.antt.
 -- "one statement per line, keywords for the seven kinds, numbers in hex or decimal, comments, blank lines"
 use Prim.Native.Nat.{ℕ, _+_, _*_, _<_}
 use mathlib.Core.List.{List, [], _∷_, _++_}
@@ -84,12 +84,12 @@ pub data Statement : List ℕ → Record → Type 0 where
   end : Statement endWord (scriptRecord 7 0 0 0)
 
 -- ---- lines, each with its records: one, or none
--- "comment = ";" { any byte but LF }", or no comment. A line has no LF in it
+-- "[ comment ]", "comment = ";" { any byte but LF }". The grammar of texts says that a line has no LF in it
 pub data Comment : List ℕ → Type 0 where
   none : Comment []
   comment : (bytes : List ℕ) → Comment (0x3B ∷ bytes)
 
--- a carriage return, or none
+-- "[ CR ]"
 pub data Return : List ℕ → Type 0 where
   none : Return []
   return : Return (0x0D ∷ [])

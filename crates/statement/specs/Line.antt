@@ -1,5 +1,6 @@
 -- How a line of a text script is read: its bytes up to the comment are split into words, and the first word says which numbers must follow. The
--- contracts of src/lib.rt use these definitions. proofs/ reads exactly the lines of the grammar (Grammar.antt) with them.
+-- contracts of src/lib.rt use these definitions. proofs/ shows that `isLine` holds for exactly the lines of the grammar (Grammar.antt), and that
+-- `lineRecords` gives their records.
 use Prim.Native.Nat.{ℕ, zero, suc, _+_, _-_, _*_, _≤_}
 use mathlib.Core.Path.{_≡_}
 use mathlib.Core.Bool.{Bool, true, false, cond, not, _&&_, _||_}
@@ -188,17 +189,18 @@ tooBig = 0x1_0000_0000
 unfoldable pub capped : ℕ → ℕ
 capped n = cond (leb n tooBig) n tooBig
 
--- the number that digits of a base stand for
+-- a number, or none
 abbrev pub numberIf : Bool → ℕ → Number
 numberIf ok n = record { ok = ok; value = cond ok (capped n) 0 }
 
+-- the number that digits of a base stand for
 unfoldable pub numberOf : (base : ℕ) → List ℕ → Number
 numberOf base ds = numberIf (ltb 0 (length ds) && allDigits base ds) (valueAfter 0 base ds)
 
 unfoldable pub numberIn : List ℕ → Number
 numberIn w = numberIf (isNumber w) (valueOf w)
 
--- the number after index `at`, if one is wanted there
+-- the number that is the first word of a text, if one is wanted there, otherwise 0
 unfoldable pub operandNumber : Bool → List ℕ → Number
 operandNumber wanted s = cond wanted (numberIn (word s)) (numberIf true 0)
 

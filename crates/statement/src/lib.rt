@@ -156,7 +156,7 @@ fn capped(n: u64) -> u64
     TOO_BIG
 }
 
-// The number of digits, all of which have this base.
+// The number that the digits stand for. Not ok if one of them is not a digit of this base, or if there are none.
 fn number_of(digits: &[u8], base: u64) -> Number
     requires { ⌜ (0 < base) × (base ≤ 16) ⌝ }
     ensures { λ r. ⌜ r ≡ numberOf base (now (digits .entry)) ⌝ }
@@ -394,7 +394,7 @@ fn content_length(line: &[u8], comment: usize) -> usize
     before_return(line)
 }
 
-// Reads a line, which has no line feed in it. `comment` is the index of its first semicolon, or its length: the caller finds it while it looks for
+// Reads a line, without its line feed. `comment` is the index of its first semicolon, or its length: the caller finds it while it looks for
 // the end of the line.
 pub fn read(line: &[u8], comment: usize) -> LineResult
     requires { ⌜ comment ≡ run notSemicolon (now line) ⌝ }
