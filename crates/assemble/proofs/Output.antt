@@ -1,6 +1,6 @@
 -- The first 12 bytes for each record in the buffer are the output: the records are written to its front, and there are none after a refusal.
 use Prim.Native.Nat.{ℕ, _*_, _≤_}
-use mathlib.Core.Path.{_≡_, ap, refl, sym, _∙_}
+use mathlib.Core.Path.{_≡_, ap, refl, sym}
 use mathlib.Core.Bool.{Bool, true, false}
 use mathlib.Core.List.{List}
 use native.Mathlib.Omega.{arith}
@@ -10,10 +10,8 @@ use lib.ListN.{drop, length, take}
 use lib.Seq.{length-take-le, take-at}
 use Rattle.assembler.proofs.TextCorrect.{text-correct}
 use Rattle.assembler.specs.Assemble.{assembleResult, recordBytes, recordsAfter, textRecords, textRefusal, withRecords}
-use Rattle.assembler.specs.TextCorrect.{Accepted, TextCorrect}
 use Rattle.assembler.specs.declared.AssembleResult.{AssembleResult}
 use Rattle.compiler.proofs.Image.{image-length}
-use Rattle.outcome.specs.declared.Refusal.{Refusal}
 use Rattle.record.specs.Record.{recordSize}
 use Rattle.refusal_text.specs.Refused.{Put}
 use Rattle.assemble.specs.Output.{output}

@@ -5,7 +5,6 @@ use mathlib.Core.Bool.{cond}
 use mathlib.Core.List.{List, []}
 use lib.Dec.{eqb}
 use Rattle.assembler.specs.Assemble.{recordBytes, textRecords, textRefusal}
-use Rattle.outcome.specs.declared.Refusal.{Refusal}
 use Rattle.refusal_text.specs.Refused.{Put}
 use Rattle.assemble.specs.declared.Answer.{Answer}
 

@@ -1,11 +1,10 @@
 -- The answer of `assemble` from what `read_lines` found: a bad line, too little room, or records that were written.
 use Prim.Native.Nat.{ℕ, suc, _*_, _/_, _≤_, _<_}
 use mathlib.Core.Path.{_≡_, ap, refl, sym, _∙_}
-use mathlib.Core.Bool.{Bool, true, false, cond, false≢true}
+use mathlib.Core.Bool.{Bool, true, false, cond}
 use mathlib.Core.List.{List, [], _∷_, _++_}
-use native.Mathlib.Omega.{arith}
-use borrow.Author.Tests.{eq-eqb, eqb-false, le-ltb, lt-ltb, ne-eqb}
-use lib.Dec.{eqb, ltb}
+use borrow.Author.Tests.{eqb-false, le-ltb, lt-ltb, ne-eqb}
+use lib.Dec.{eqb}
 use lib.ListN.{drop, length, take}
 use lib.Seq.{take-at}
 use Rattle.compiler.proofs.Image.{image-length}
@@ -15,7 +14,7 @@ use Rattle.outcome.specs.declared.Refusal.{Refusal}
 use Rattle.record.specs.Record.{recordSize}
 use Rattle.record.specs.declared.Record.{Record}
 use Rattle.statement.specs.Line.{lineFault}
-use Rattle.assembler.specs.Assemble.{LinesRead, answer, assembleResult, badLine, checkResult, firstBadLine, linesOf, noRoom, recordBytes, recordsAfter, textRecords, textRefusal, withRecords}
+use Rattle.assembler.specs.Assemble.{answer, assembleResult, badLine, checkResult, firstBadLine, linesOf, noRoom, recordBytes, recordsAfter, textRecords, textRefusal, withRecords}
 use Rattle.assembler.specs.declared.AssembleResult.{AssembleResult}
 
 -- number 0 means that no line is bad, and the place is 0 too

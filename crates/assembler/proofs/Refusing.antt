@@ -1,14 +1,13 @@
 -- Why a text is refused: the first line that is too long, not in the grammar or has a number that does not fit, with the least of these numbers, or
 -- too little room. The first bad line is looked for from the first line on, so all lines before it are good.
-use Prim.Native.Nat.{ℕ, suc, _+_, _*_, _/_, _≤_, _<_}
-use mathlib.Core.Path.{_≡_, ap, refl, sym, _∙_}
+use Prim.Native.Nat.{ℕ, suc, _+_, _/_}
+use mathlib.Core.Path.{_≡_, refl, sym, _∙_}
 use mathlib.Core.Bool.{Bool, true, false, cond, false≢true, not}
 use mathlib.Core.List.{List, [], _∷_}
 use native.Mathlib.Omega.{arith}
-use borrow.Author.Tests.{eqb-false, eqb-true, ltb-false, ltb-true}
+use borrow.Author.Tests.{eqb-true, ltb-false, ltb-true}
 use lib.Dec.{eqb, ltb}
 use lib.ListN.{length}
-use Rattle.lists.specs.All.{All}
 use Rattle.lists.specs.Tests.{firstFrom}
 use Rattle.mask.proofs.Every.{both}
 use Rattle.outcome.specs.Refusal.{refusal}
@@ -16,11 +15,9 @@ use Rattle.outcome.specs.declared.Refusal.{Refusal}
 use Rattle.record.specs.declared.Record.{Record}
 use Rattle.statement.proofs.Complete.{complete}
 use Rattle.statement.proofs.Sound.{sound}
-use Rattle.statement.specs.Grammar.{Line}
 use Rattle.statement.specs.Line.{allFit, fitsFields, isLine, lineFault, lineRecords}
-use Rattle.assembler.specs.Assemble.{answer, assembleResult, badLine, firstBadLine, linesOf, noRoom, recordsAfter, textRecords, textRefusal}
+use Rattle.assembler.specs.Assemble.{answer, assembleResult, badLine, firstBadLine, linesOf, noRoom, textRecords, textRefusal}
 use Rattle.assembler.specs.TextCorrect.{BadLine, FirstBad, Fit, GoodLine, Refused}
-use Rattle.assembler.specs.declared.AssembleResult.{AssembleResult}
 use Rattle.assembler.proofs.NoBadLine.{good-line, good-text}
 use Rattle.assembler.proofs.TextLines.{text-of}
 

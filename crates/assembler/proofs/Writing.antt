@@ -1,5 +1,5 @@
 -- The loop of `read_lines`: what holds before each line, that a good line keeps it, and what it means at a bad line and at the end.
-use Prim.Native.Nat.{ℕ, zero, suc, _+_, _-_, _*_, _/_, _≤_, _<_}
+use Prim.Native.Nat.{ℕ, suc, _+_, _-_, _*_, _/_, _≤_, _<_}
 use mathlib.Core.Path.{_≡_, ap, refl, sym, _∙_}
 use mathlib.Core.Bool.{Bool, true, false, cond, false≢true}
 use mathlib.Core.List.{List, [], _∷_, _++_, append-assoc, append-nil}
@@ -18,7 +18,6 @@ use Rattle.record.specs.declared.Record.{Record}
 use Rattle.statement.specs.Line.{content, foundIn, isEmpty, lineFault, lineRecords, lineResult, refused, run, statementRecord, word}
 use Rattle.statement.specs.declared.LineResult.{LineResult}
 use Rattle.assembler.specs.Assemble.{LinesRead, badLine, checkResult, firstBadLine, linesOf, notLineFeed, putRecord, putStatements, recordBytes, recordsIn, textRecords, withRecords}
-use Rattle.assembler.specs.declared.AssembleResult.{AssembleResult}
 use Rattle.assembler.proofs.Lines.{firstLine, otherLines, some-line}
 
 -- ---- the result of a line

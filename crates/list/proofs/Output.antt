@@ -1,60 +1,24 @@
 -- A buffer of `textSize` bytes is long enough for every listing, so `list` never gives refusal 34, and the listing is in the front of the buffer.
-use Prim.Native.Nat.{ℕ, _*_, _≤_}
+use Prim.Native.Nat.{ℕ, _≤_}
 use mathlib.Core.Path.{_≡_, ap, refl, sym, _∙_}
 use mathlib.Core.Bool.{Bool, true, false, cond}
-use mathlib.Core.List.{List, [], _∷_, _++_}
+use mathlib.Core.List.{List, [], _++_}
 use native.Mathlib.Omega.{arith}
 use borrow.Author.Tests.{eqb-true, le-ltb}
 use lib.Dec.{eqb}
-use lib.ListN.{drop, length, length-append, length-replicate, take}
+use lib.ListN.{drop, length, take}
 use lib.Seq.{length-take-le, take-at}
 use Rattle.lister.proofs.Answers.{no-fault}
-use Rattle.lister.proofs.Lengths.{margin-most, statement-most}
-use Rattle.lister.specs.Listing.{
-  answer,
-  depthAfter,
-  firstWrong,
-  lineText,
-  listRefusal,
-  listResult,
-  listing,
-  listingFrom,
-  margin,
-  marginLength,
-  scriptFault,
-  statementText,
-  textAfter,
-  withText,
-}
+use Rattle.lister.proofs.Lengths.{lines-most}
+use Rattle.lister.specs.Listing.{answer, firstWrong, listRefusal, listResult, listing, scriptFault, textAfter, withText}
 use Rattle.lister.specs.declared.ListResult.{ListResult}
 use Rattle.outcome.specs.Refusal.{refusal}
 use Rattle.outcome.specs.declared.Refusal.{Refusal}
-use Rattle.record.specs.declared.Record.{Record}
-use Rattle.refusal_text.specs.Refused.{Put}
 use Rattle.script.proofs.Grammar.{records-length}
 use Rattle.script.proofs.Records.{few-records}
-use Rattle.script.specs.Records.{recordCount, recordsOf}
+use Rattle.script.specs.Records.{recordsOf}
 use Rattle.script.specs.Refusals.{badLength}
 use Rattle.list.specs.Output.{Answered, output, textSize}
-
--- ---- a line has at most 88 bytes with its line feed
-line-most : (depth : ℕ) (r : Record) → length (lineText depth r) ≤ 87
-unfolding lineText
-line-most depth r =
-    let a = length-append (margin depth (r .kind)) (statementText r) in
-    let l = length-replicate {A = ℕ} (marginLength depth (r .kind)) 0x20 in
-    let m = margin-most depth (r .kind) in
-    let s = statement-most r in
-    omega (arith, a, l, m, s)
-
-lines-most : (depth : ℕ) (rs : List Record) → length (listingFrom depth rs) ≤ 88 * length rs
-lines-most depth [] = omega arith
-lines-most depth (r ∷ rs) =
-    let rest = listingFrom (depthAfter depth (r .kind)) rs in
-    let a = length-append (lineText depth r) (0x0A ∷ rest) in
-    let l = line-most depth r in
-    let h = lines-most (depthAfter depth (r .kind)) rs in
-    omega (arith, a, l, h)
 
 module _ (script : List ℕ) where
   -- a script without refusal 1 has at most 1,024 records

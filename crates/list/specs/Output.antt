@@ -6,7 +6,6 @@ use mathlib.Core.List.{List, []}
 use lib.Dec.{eqb}
 use Rattle.lister.specs.Listing.{listing, scriptFault}
 use Rattle.lister.specs.declared.ListResult.{ListResult}
-use Rattle.outcome.specs.declared.Refusal.{Refusal}
 use Rattle.refusal_text.specs.Refused.{Put}
 
 -- the listing of the script; nothing if it is refused

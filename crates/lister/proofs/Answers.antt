@@ -7,16 +7,7 @@ use borrow.Author.Tests.{le-ltb, lt-ltb, ne-eqb}
 use lib.Dec.{eqb}
 use lib.ListN.{length}
 use Rattle.outcome.specs.Refusal.{refusal}
-use Rattle.lister.specs.Listing.{
-  listRefusal,
-  listResult,
-  listing,
-  measured,
-  refusedAt,
-  scriptFault,
-  textAfter,
-  withText,
-}
+use Rattle.lister.specs.Listing.{listRefusal, listResult, listing, measured, refusedAt, scriptFault, textAfter, withText}
 use Rattle.lister.specs.declared.ListResult.{ListResult}
 use Rattle.lister.proofs.Faults.{no-refusal, none-of}
 

@@ -11,20 +11,7 @@ use Rattle.digits.proofs.Puts.{decimal-length}
 use Rattle.digits.specs.Text.{byteText, decimalText, hexText}
 use Rattle.record.specs.declared.Record.{Record}
 use Rattle.statement.specs.Grammar.{delayWord, elseWord, endWord, ifWord, readWord, repeatWord, writeWord}
-use Rattle.lister.specs.Listing.{
-  accessText,
-  accessValueText,
-  bytesLength,
-  bytesText,
-  countText,
-  depthAfter,
-  lineDepth,
-  lineText,
-  listingFrom,
-  marginLength,
-  pairText,
-  statementText,
-}
+use Rattle.lister.specs.Listing.{accessText, accessValueText, bytesLength, bytesText, countText, depthAfter, lineDepth, lineText, listingFrom, marginLength, pairText, statementText}
 
 -- ---- the digits of a count: one for each power of ten up to it
 module _ (n : ℕ) where

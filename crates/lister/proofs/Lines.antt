@@ -18,18 +18,7 @@ use Rattle.script.proofs.Records.{after-last, few-records, from-here}
 use Rattle.script.specs.Records.{recordCount, recordsFrom, recordsOf}
 use Rattle.script.specs.Refusals.{badLength}
 use Rattle.script.specs.Scan.{shapeFault}
-use Rattle.lister.specs.Listing.{
-  depthAfter,
-  firstWrong,
-  lineText,
-  listing,
-  listingFrom,
-  marginLength,
-  measured,
-  refusedAt,
-  scriptFault,
-  statementText,
-}
+use Rattle.lister.specs.Listing.{depthAfter, firstWrong, lineText, listing, listingFrom, marginLength, measured, refusedAt, scriptFault, statementText}
 use Rattle.lister.specs.declared.ListResult.{ListResult}
 use Rattle.lister.proofs.Lengths.{margin-most, statement-most}
 

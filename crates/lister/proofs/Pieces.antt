@@ -14,18 +14,7 @@ use Rattle.digits.proofs.Puts.{puts-both}
 use Rattle.digits.specs.Text.{Line, lineAt, put, puts}
 use Rattle.record.specs.declared.Record.{Record}
 use Rattle.statement.specs.Grammar.{delayWord, elseWord, endWord, ifWord, readWord, repeatWord, writeWord}
-use Rattle.lister.specs.Listing.{
-  accessText,
-  accessValueText,
-  bytesText,
-  countText,
-  lineDepth,
-  lineText,
-  margin,
-  marginLength,
-  statementText,
-  withText,
-}
+use Rattle.lister.specs.Listing.{accessText, accessValueText, bytesText, countText, lineDepth, lineText, margin, marginLength, statementText, withText}
 
 -- ---- the margin
 module _ (depth kind : ℕ) where

@@ -7,7 +7,6 @@ use lib.ListN.{drop, length}
 use Rattle.lists.specs.All.{All}
 use Rattle.assembler.specs.Assemble.{assembleResult, linesOf, recordsAfter}
 use Rattle.assembler.specs.Grammar.{Text}
-use Rattle.assembler.specs.declared.AssembleResult.{AssembleResult}
 use Rattle.record.specs.declared.Record.{Record}
 use Rattle.script.specs.Records.{recordCount, recordsOf}
 use Rattle.script.specs.Refusals.{badFields, badKind, badLength, scriptRefusal, wrongMark}

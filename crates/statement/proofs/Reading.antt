@@ -4,11 +4,10 @@ use mathlib.Core.Path.{_≡_, ap, refl, sym, _∙_}
 use mathlib.Core.Bool.{Bool, true, false, cond, false≢true, not, _&&_}
 use mathlib.Core.List.{List, [], _∷_}
 use native.Mathlib.Omega.{arith}
-use borrow.Author.Tests.{eq-eqb, eqb-true, ne-eqb}
-use lib.Dec.{eqb, leb}
+use borrow.Author.Tests.{eq-eqb, ne-eqb}
+use lib.Dec.{eqb}
 use lib.ListN.{drop, drop-of-length-le, getD, length, take}
 use lib.Seq.{drop-cons, drop-drop, length-take-le, take-length}
-use Rattle.record.specs.declared.Record.{Record}
 use Rattle.script.specs.Nested.{scriptRecord}
 use Rattle.statement.specs.Line.{afterWord, beforeReturn, content, contentLength, isBlank, isEmpty, isHex, isNumber, lastByte, notBlank, notSemicolon, numberIn, numberOf, run, sameWord, unindented, valueOf, word}
 use Rattle.statement.proofs.Runs.{run-inside, run-most}

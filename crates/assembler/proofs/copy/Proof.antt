@@ -1,8 +1,6 @@
 -- `copy` pastes the first `end` bytes at index 0.
-use Prim.Native.Nat.{_+_}
-use mathlib.Core.Path.{_≡_, ap, sym, _∙_}
+use mathlib.Core.Path.{sym}
 use native.Mathlib.Omega.{arith}
-use lib.ListN.{length}
 use lib.Seq.{length-take-le}
 use borrow.Author.Needs.{needs}
 use Rattle.assembler.proofs.Writing.{paste-front}

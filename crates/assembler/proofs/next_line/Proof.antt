@@ -1,9 +1,9 @@
 -- `next_line` skips the line feed. At the end of the text there is none, and nothing is left.
 use Prim.Native.Nat.{suc}
-use mathlib.Core.Path.{_≡_, refl, sym, _∙_}
+use mathlib.Core.Path.{sym, _∙_}
 use native.Mathlib.Numerals.{add-one}
 use native.Mathlib.Omega.{arith}
-use lib.ListN.{drop, drop-of-length-le}
+use lib.ListN.{drop-of-length-le}
 use borrow.Author.Needs.{needs}
 use Rattle.assembler.proofs.next_line.Statement.{statement}
 use Rattle.assembler.proofs.next_line.Tie as tie

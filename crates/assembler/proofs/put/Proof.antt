@@ -1,7 +1,6 @@
 -- `put` writes the record if there is one and room for it, and otherwise nothing. `record::write` gets only the part of the buffer that starts at it.
-use Prim.Native.Nat.{_-_, _*_, _/_}
-use mathlib.Core.Path.{_≡_, refl, sym, _∙_}
-use native.Mathlib.Omega.{arith}
+use Prim.Native.Nat.{_-_, _*_}
+use mathlib.Core.Path.{refl, sym, _∙_}
 use borrow.Author.Tests.{eq-eqb, ne-eqb}
 use lib.ListN.{length}
 use Rattle.compiler.proofs.Image.{put-part}

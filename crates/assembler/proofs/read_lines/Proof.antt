@@ -1,8 +1,7 @@
 -- `read_lines` reads line after line and keeps `Reading`. It stops at a bad line or at the end of the text.
-use Prim.Native.Nat.{ℕ, suc, _+_, _-_}
-use mathlib.Core.Path.{_≡_, ap, sym, _∙_}
+use Prim.Native.Nat.{_-_}
+use mathlib.Core.Path.{ap, sym, _∙_}
 use native.Mathlib.Omega.{arith}
-use borrow.Author.Needs.{needs}
 use lib.ListN.{length}
 use Rattle.statement.proofs.Runs.{run-inside}
 use Rattle.statement.specs.Line.{lineResult, notSemicolon, run}

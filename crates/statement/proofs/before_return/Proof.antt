@@ -1,8 +1,7 @@
 -- `before_return` leaves out the last byte if it is a carriage return. The empty line has none.
 use borrow.Author.Tests.{eq-eqb, ne-eqb}
-use mathlib.Core.Path.{_≡_, sym, _∙_}
+use mathlib.Core.Path.{sym, _∙_}
 use native.Mathlib.Omega.{arith}
-use lib.ListN.{length}
 use Rattle.statement.proofs.Reading.{last-inside}
 use borrow.Author.Needs.{needs}
 use Rattle.statement.proofs.before_return.Statement.{statement}

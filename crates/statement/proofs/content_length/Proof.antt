@@ -1,6 +1,5 @@
 -- `content_length` returns the start of the comment, which a carriage return at the end of the line follows, or the end of the line.
 use mathlib.Core.Path.{_∙_}
-use native.Mathlib.Omega.{arith}
 use Rattle.statement.proofs.Reading.{comment-inside, no-comment}
 use borrow.Author.Needs.{needs}
 use Rattle.statement.proofs.content_length.Statement.{statement}

@@ -1,10 +1,8 @@
 -- `number_of` returns the number of digits of a base. At each turn, the digits that are left complete it.
 use Prim.Native.Nat.{_-_}
-use mathlib.Core.Path.{_≡_, ap, sym, _∙_}
 use native.Mathlib.Nat.{mul-le-mul}
 use native.Mathlib.Omega.{arith}
 use borrow.Author.Needs.{needs}
-use lib.ListN.{length}
 use Rattle.statement.specs.Line.{tooBig}
 use Rattle.statement.proofs.Stopped.{Reads, a-number, not-number, read-end, read-on, read-start, read-stop}
 use Rattle.statement.proofs.number_of.Statement.{statement}

@@ -1,9 +1,8 @@
 -- `read` returns the result of the line: 30 if it is too long, otherwise that of its content.
-use mathlib.Core.Path.{_≡_, ap, sym, _∙_}
+use mathlib.Core.Path.{ap, sym, _∙_}
 use native.Mathlib.Omega.{arith}
-use lib.ListN.{take}
 use lib.Seq.{length-take-le}
-use Rattle.statement.specs.Line.{content, statementResult}
+use Rattle.statement.specs.Line.{statementResult}
 use Rattle.statement.proofs.LineResults.{long-line, short-line}
 use Rattle.statement.proofs.Reading.{content-inside, content-is}
 use borrow.Author.Needs.{needs}

@@ -1,5 +1,5 @@
 -- `read_number` reads the digits in the base that the last byte of the word names. In a hex number they are all bytes but the last.
-use mathlib.Core.Path.{_≡_, sym, _∙_}
+use mathlib.Core.Path.{sym, _∙_}
 use native.Mathlib.Omega.{arith}
 use lib.Seq.{length-take-le}
 use Rattle.statement.proofs.Reading.{decimal-number, hex-inside, hex-number}

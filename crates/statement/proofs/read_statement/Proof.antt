@@ -1,23 +1,8 @@
 -- `read_statement` reads the keyword, then up to three numbers, and checks that nothing is left. Where it stops early, the text is not a statement.
-use mathlib.Core.Path.{_≡_, ap, sym, _∙_}
+use mathlib.Core.Path.{ap, _∙_}
 use native.Mathlib.Omega.{arith}
-use Rattle.statement.specs.Line.{isBlank, isEmpty, kindOf, resultOf, recordWith, word}
-use Rattle.statement.proofs.Operands.{
-  first-ok,
-  first-value,
-  no-statement,
-  second-ok,
-  second-value,
-  stop-1,
-  stop-2,
-  stop-3,
-  stop-4,
-  third-ok,
-  third-rest,
-  third-value,
-  unknown,
-  whole,
-}
+use Rattle.statement.specs.Line.{isBlank, kindOf}
+use Rattle.statement.proofs.Operands.{first-ok, first-value, no-statement, second-ok, second-value, stop-1, stop-2, stop-3, stop-4, third-ok, third-rest, third-value, unknown, whole}
 use Rattle.statement.proofs.Reading.{not-left, not-taken, nothing-left, something-left, word-in}
 use Rattle.statement.proofs.Runs.{run-inside}
 use borrow.Author.Needs.{needs}

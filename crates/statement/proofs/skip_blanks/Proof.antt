@@ -1,7 +1,6 @@
 -- `skip_blanks` returns the index of the first byte that is not a blank, or the length. At each turn all bytes since `at` are blanks.
 use Prim.Native.Nat.{_-_}
 use mathlib.Core.Path.{refl, sym, _∙_}
-use native.Mathlib.Omega.{arith}
 use lib.ListN.{length}
 use borrow.Author.Needs.{needs}
 use Rattle.statement.specs.Line.{isBlank}

@@ -1,5 +1,5 @@
 -- `with_operands` takes a count as the value, and otherwise the operands in order.
-use mathlib.Core.Path.{_≡_, ap, _∙_}
+use mathlib.Core.Path.{ap, _∙_}
 use Rattle.statement.specs.Line.{hasCount, resultOf}
 use Rattle.statement.proofs.Reading.{chosen-fields}
 use borrow.Author.Needs.{needs}

@@ -1,5 +1,5 @@
 -- `with_record` checks that the numbers fit their types, then the fields. A number that does not fit its type fits no field.
-use mathlib.Core.Path.{_≡_, sym, _∙_}
+use mathlib.Core.Path.{sym, _∙_}
 use mathlib.Core.Bool.{false≢true}
 use native.Mathlib.Omega.{arith}
 use Rattle.script.specs.Nested.{scriptRecord}

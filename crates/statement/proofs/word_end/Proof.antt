@@ -1,7 +1,6 @@
 -- `word_end` returns the index of the first blank, or the length. At each turn no byte since `at` is a blank.
 use Prim.Native.Nat.{_-_}
 use mathlib.Core.Path.{refl}
-use native.Mathlib.Omega.{arith}
 use lib.ListN.{length}
 use borrow.Author.Needs.{needs}
 use Rattle.statement.specs.Line.{notBlank}
