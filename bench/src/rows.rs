@@ -22,7 +22,7 @@ impl Row {
     pub fn items(&self, done: &Done) -> (u64, &'static str) {
         match &self.work {
             Work::Compile { script, times } | Work::List { script, times } => ((script.len() / 12 * times) as u64, "record"),
-            Work::Assemble { times, .. } => (done.numbers[0] * *times as u64, "record"),
+            Work::Assemble { times, .. } | Work::ListAndAssemble { times, .. } => (done.numbers[0] * *times as u64, "record"),
             Work::Run { times, .. } | Work::Interpret { times, .. } => (done.numbers[1] * *times as u64, "step"),
             Work::Parts { .. } => (done.numbers[1], "step"),
             Work::Accesses { list, times, .. } => ((list.len() * times) as u64, "access"),
@@ -34,7 +34,7 @@ impl Row {
     pub fn cleared(&self) -> &'static str {
         match self.work {
             Work::Compile { .. } => "image cleared",
-            Work::Assemble { .. } => "records cleared",
+            Work::Assemble { .. } | Work::ListAndAssemble { .. } => "records cleared",
             Work::List { .. } => "text cleared",
             Work::Run { log: 0, .. } | Work::Interpret { log: 0, .. } => "no log",
             Work::Run { .. } | Work::Interpret { .. } => "log cleared",
@@ -74,7 +74,8 @@ fn texts(size: Size) -> Vec<Row> {
     vec![
         row("reading a listing", Work::Assemble { text: inputs::listing(&script), times }),
         row("reading it with comments and CR LF", Work::Assemble { text: inputs::commented(&script), times }),
-        row("listing", Work::List { script, times }),
+        row("listing", Work::List { script: script.clone(), times }),
+        row("reading and listing", Work::ListAndAssemble { script, times }),
     ]
 }
 

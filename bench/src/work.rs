@@ -51,6 +51,8 @@ pub enum Work {
     Assemble { text: Vec<u8>, times: usize },
     /// Lists the script this many times.
     List { script: Vec<u8>, times: usize },
+    /// Lists the script and reads the listing this many times.
+    ListAndAssemble { script: Vec<u8>, times: usize },
     /// Runs the image this many times, each time on a fresh device, from a fresh sequencer.
     Run { image: Vec<u8>, events: Vec<u32>, budget: u32, log: usize, times: usize },
     /// Interprets the script this many times, each time on a fresh device. The third side runs the image.
@@ -93,7 +95,7 @@ impl Work {
     pub fn buffers(&self) -> Buffers {
         let (bytes, log) = match self {
             Work::Compile { .. } => (runnelopal::IMAGE_BYTES, 0),
-            Work::Assemble { .. } => (runnelopal::SCRIPT_BYTES, 0),
+            Work::Assemble { .. } | Work::ListAndAssemble { .. } => (runnelopal::SCRIPT_BYTES, 0),
             Work::List { .. } => (runnelopal::TEXT_BYTES, 0),
             Work::Run { log, .. } | Work::Interpret { log, .. } => (0, *log),
             Work::Parts { .. } | Work::Accesses { .. } | Work::Events { .. } => (0, 0),
@@ -119,6 +121,12 @@ impl Work {
             (Work::Assemble { text, times }, _) => converted(runnelopal::assemble, text, *times, &mut buffers.bytes),
             (Work::List { script, times }, Side::Theirs) => converted(text::list, script, *times, &mut buffers.bytes),
             (Work::List { script, times }, _) => converted(runnelopal::list, script, *times, &mut buffers.bytes),
+            (Work::ListAndAssemble { script, times }, Side::Theirs) => {
+                there_and_back(text::list, text::read, script, *times, &mut buffers.bytes)
+            }
+            (Work::ListAndAssemble { script, times }, _) => {
+                there_and_back(runnelopal::list, runnelopal::assemble, script, *times, &mut buffers.bytes)
+            }
             (Work::Interpret { script, events, budget, times, .. }, Side::Ours) => {
                 our_interpretation(script, events, *budget, &mut buffers.log, *times)
             }
@@ -152,6 +160,24 @@ fn converted<R: Debug>(call: impl Fn(&[u8], &mut [u8]) -> Result<usize, R>, from
     for _ in 0..times {
         count = call(black_box(from), bytes).expect("the input is valid");
         black_box(&mut *bytes);
+    }
+    Done { numbers: [count as u64, 0, 0, 0], sum: 0, sequencer: None, state: None }
+}
+
+/// Lists the script, and reads the listing into the records.
+fn there_and_back<L: Debug, R: Debug>(
+    list: impl Fn(&[u8], &mut [u8]) -> Result<usize, L>,
+    read: impl Fn(&[u8], &mut [u8]) -> Result<usize, R>,
+    script: &[u8],
+    times: usize,
+    records: &mut [u8],
+) -> Done {
+    let mut text = vec![0xEE; runnelopal::TEXT_BYTES];
+    let mut count = 0;
+    for _ in 0..times {
+        let length = list(black_box(script), &mut text).expect("the script is valid");
+        count = read(black_box(&text[..length]), records).expect("a listing is valid");
+        black_box(&mut *records);
     }
     Done { numbers: [count as u64, 0, 0, 0], sum: 0, sequencer: None, state: None }
 }

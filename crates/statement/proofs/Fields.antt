@@ -84,9 +84,24 @@ does-not-fit r n = pick (fitsFields r) refl
     pick true e = absurd (n e)
     pick false e = refl
 
-pub does-fit : (r : Record) → r .port ≤ mostPort → goodFields r ≡ true → foundIn (r ∷ []) ≡ resultOf r
+pub does-fit : (r : Record) → fitsFields r ≡ true → foundIn (r ∷ []) ≡ resultOf r
 unfolding resultOf
-does-fit r l e = rw (le-leb (r .port) mostPort l, e)
+does-fit r e = rw e
+
+-- the test of the fields decides, if the port fits
+pub fits-good : (r : Record) → r .port ≤ mostPort → goodFields r ≡ fitsFields r
+fits-good r l = rw (le-leb (r .port) mostPort l) (pick (goodFields r))
+  where
+    pick : (b : Bool) → b ≡ not (not b)
+    pick true = refl
+    pick false = refl
+
+pub fits-not : (r : Record) → (fitsFields r ≡ true → ⊥) → false ≡ fitsFields r
+fits-not r n = pick (fitsFields r) refl
+  where
+    pick : (b : Bool) → fitsFields r ≡ b → false ≡ b
+    pick true e = absurd (n e)
+    pick false e = refl
 
 pub good-needed : (r : Record) → fitsFields r ≡ true → goodFields r ≡ true
 good-needed r h = not-not (goodFields r) (both (leb (r .port) mostPort) (not (not (goodFields r))) h .1)

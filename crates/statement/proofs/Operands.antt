@@ -1,7 +1,7 @@
 -- The numbers of a statement, read one after the other. A keyword has at most three, so three places are tried, each only if a number is wanted there.
 use Prim.Native.Nat.{ℕ, zero, suc, _-_, _≤_}
 use mathlib.Core.Path.{_≡_, ap, refl, sym, _∙_}
-use mathlib.Core.Bool.{Bool, true, false, cond, _&&_, _||_}
+use mathlib.Core.Bool.{Bool, true, false, cond, not, _&&_, _||_}
 use mathlib.Core.List.{List, [], _∷_}
 use native.Mathlib.Omega.{arith}
 use borrow.Author.Tests.{ne-eqb}
@@ -10,7 +10,9 @@ use lib.ListN.{drop, length, take}
 use Rattle.mask.proofs.Every.{both}
 use Rattle.outcome.specs.Number as number
 use Rattle.script.specs.Kind as kind
-use Rattle.statement.specs.Line.{OperandAt, afterOperand, afterWord, areOperands, capped, hasCount, isEmpty, isNumber, isStatement, kindOf, numberIn, operandCount, operandNumber, operands, recordWith, refused, resultOf, statementRecord, statementResult, valueOf, word}
+use Rattle.script.specs.Nested.{scriptRecord}
+use Rattle.width.specs.Width.{fitsWidth, isWidth}
+use Rattle.statement.specs.Line.{OperandAt, afterOperand, afterWord, areOperands, capped, fitsFields, hasCount, isEmpty, isNumber, isStatement, kindOf, numberIn, operandCount, operandNumber, operands, recordWith, refused, resultOf, statementRecord, statementResult, valueOf, word}
 use Rattle.statement.specs.declared.Number.{Number}
 use Rattle.statement.specs.declared.Operand.{Operand}
 use Rattle.statement.proofs.Fields.{stop-operands}
@@ -91,6 +93,19 @@ few-operands k = pick (eqb k kind.write || eqb k kind.if) (eqb k kind.read) (has
     pick false false true = omega arith
     pick false false false = omega arith
 
+-- a record without operands fits
+pub alone-fits : (k n : ℕ) → n ≡ operandCount k → n ≡ 0 → fitsFields (scriptRecord k 0 0 0) ≡ true
+unfolding operandCount
+alone-fits k n counted none =
+    pick (eqb k kind.write || eqb k kind.if) (eqb k kind.read) (hasCount k) (sym counted ∙ none)
+  where
+    pick : (a b c : Bool) → _≡_ {A = ℕ} (cond a 3 (cond b 2 (cond c 1 0))) 0
+        → not (not (cond a (isWidth 0 && fitsWidth 0 0) (cond b (isWidth 0 && true) (cond c true true)))) ≡ true
+    pick true b c e = absurd (omega (arith, e))
+    pick false true c e = absurd (omega (arith, e))
+    pick false false true e = absurd (omega (arith, e))
+    pick false false false e = refl
+
 -- ---- the result of a statement whose first word is not empty
 pub no-statement : (s : List ℕ) → isEmpty (word s) ≡ true → refused 0 ≡ statementResult s
 unfolding statementResult
@@ -102,6 +117,28 @@ module _ (s : List ℕ) (k : ℕ) (some : isEmpty (word s) ≡ false) (named : k
   unknown z = rw (some, ← named, z)
 
   module _ (known : k ≡ 0 → ⊥) (n : ℕ) (counted : n ≡ operandCount k) where
+    -- a keyword without operands
+    module _ (none : n ≡ 0) where
+      alone-is : isStatement s ≡ isEmpty (word (afterWord s))
+      unfolding isStatement
+      alone-is =
+          let z : operandCount k ≡ 0 = sym counted ∙ none in
+          rw (← named, ne-eqb k 0 known, z)
+
+      pub alone-stop : isEmpty (word (afterWord s)) ≡ false → refused number.notInGrammar ≡ statementResult s
+      unfolding statementResult
+      alone-stop d = rw (some, alone-is ∙ d)
+
+      pub alone-whole : isEmpty (word (afterWord s)) ≡ true → resultOf (scriptRecord k 0 0 0) ≡ statementResult s
+      unfolding statementResult statementRecord
+      alone-whole d =
+          let z : operandCount k ≡ 0 = sym counted ∙ none in
+          rw (some, alone-is ∙ d, ← named, z) (pick (hasCount k))
+        where
+          pick : (t : Bool) → resultOf (scriptRecord k 0 0 0) ≡ resultOf (cond t (scriptRecord k 0 0 0) (scriptRecord k 0 0 0))
+          pick true = refl
+          pick false = refl
+
     is-statement : isStatement s ≡ (ok1 n (afterWord s) && (ok2 n (afterWord s) && (ok3 n (afterWord s) && isEmpty (word (rest3 n (afterWord s))))))
     unfolding isStatement
     is-statement =
@@ -172,9 +209,12 @@ pub not-wanted : (s : List ℕ) (at : ℕ) (wanted : Bool) → wanted ≡ false 
 unfolding operandNumber afterOperand capped
 not-wanted s at wanted e h = rw e (record { ok = refl; value = refl; rest = refl; inside = h })
 
-pub is-wanted : (s : List ℕ) (at from to : ℕ) (wanted : Bool) (r : Number) → wanted ≡ true → WordIn s at from to
-    → r ≡ numberIn (take (to - from) (drop from s)) → OperandAt s at wanted (record { ok = r .ok; value = r .value; next = to })
+pub is-wanted : (s : List ℕ) (at from to : ℕ) (r : Number) → WordIn s at from to → r ≡ numberIn (take (to - from) (drop from s))
+    → OperandAt s at true (record { ok = r .ok; value = r .value; next = to })
 unfolding operandNumber afterOperand
-is-wanted s at from to wanted r e w n =
+is-wanted s at from to r w n =
     let m : r ≡ numberIn (word (drop at s)) = n ∙ ap numberIn (w .text) in
-    rw e (record { ok = ap (λ (x : Number). x .ok) m; value = ap (λ (x : Number). x .value) m; rest = w .rest; inside = w .inside })
+    record { ok = ap (λ (x : Number). x .ok) m; value = ap (λ (x : Number). x .value) m; rest = w .rest; inside = w .inside }
+
+pub wanted-is : (s : List ℕ) (at : ℕ) (wanted : Bool) (o : Operand) → wanted ≡ true → OperandAt s at true o → OperandAt s at wanted o
+wanted-is s at wanted o e x = rw e x

@@ -9,7 +9,7 @@ use lib.Dec.{eqb}
 use lib.ListN.{drop, drop-of-length-le, getD, length, take}
 use lib.Seq.{drop-cons, drop-drop, length-take-le, take-length}
 use Rattle.script.specs.Nested.{scriptRecord}
-use Rattle.statement.specs.Line.{afterWord, beforeReturn, content, contentLength, isBlank, isEmpty, isHex, isNumber, lastByte, notBlank, notSemicolon, numberIn, numberOf, run, sameWord, unindented, valueOf, word}
+use Rattle.statement.specs.Line.{afterWord, beforeReturn, content, contentLength, hasCount, isBlank, isEmpty, isHex, isNumber, lastByte, notBlank, notSemicolon, numberIn, numberOf, recordWith, run, sameWord, unindented, valueOf, word}
 use Rattle.statement.proofs.Runs.{run-inside, run-most}
 
 -- a negated test
@@ -119,10 +119,13 @@ unfolding content
 content-is line n e = rw e
 
 -- ---- the fields of a record: a count is the value
-pub chosen-fields : (k a b c : ℕ) (t : Bool)
-    → scriptRecord k (cond t 0 a) (cond t 0 b) (cond t a c) ≡ cond t (scriptRecord k 0 0 a) (scriptRecord k a b c)
-chosen-fields k a b c true = refl
-chosen-fields k a b c false = refl
+pub chosen-fields : (k a b c w p v : ℕ) (t : Bool) → t ≡ hasCount k → w ≡ cond t 0 a → p ≡ cond t 0 b → v ≡ cond t a c
+    → scriptRecord k w p v ≡ recordWith k (a ∷ b ∷ c ∷ [])
+chosen-fields k a b c w p v t e f g h = rw (f, g, h, e) (pick (hasCount k))
+  where
+    pick : (u : Bool) → scriptRecord k (cond u 0 a) (cond u 0 b) (cond u a c) ≡ cond u (scriptRecord k 0 0 a) (scriptRecord k a b c)
+    pick true = refl
+    pick false = refl
 
 -- ---- a word in a text: it starts at `from`, after blanks, and ends at `to`
 pub record WordIn (s : List ℕ) (at from to : ℕ) : Type 0 where

@@ -2,8 +2,7 @@
 // specs/Grammar.antt has the grammar, specs/Line.antt what these functions return.
 use record::Record;
 ghost use mathlib.Core.Path.{_≡_};
-ghost use mathlib.Core.Bool.{cond};
-ghost use mathlib.Core.List.{[], _∷_};
+ghost use mathlib.Core.Bool.{true, cond};
 ghost use Prim.Native.Nat.{_+_, _≤_, _<_};
 ghost use lib.ListN.{length, drop};
 ghost use Rattle.digits.specs.Read.{digitOf};
@@ -13,6 +12,7 @@ ghost use Rattle.statement.specs.Line.{
   beforeReturn,
   capped,
   contentLength,
+  fitsFields,
   hasCount,
   isBlank,
   isHex,
@@ -25,7 +25,6 @@ ghost use Rattle.statement.specs.Line.{
   numberIn,
   numberOf,
   operandCount,
-  recordWith,
   refused,
   resultOf,
   run,
@@ -232,7 +231,22 @@ fn operand_count(kind: u32) -> u32
     }
 }
 
-// The number after index `at`, if the statement has one there.
+// The next word from `at` on, as a number.
+fn next_operand(s: &[u8], at: usize) -> Operand
+    requires { ⌜ at ≤ length (now s) ⌝ }
+    ensures { λ r. ⌜ OperandAt (now (s .entry)) at true r ⌝ }
+{
+    let from = skip_blanks(s, at);
+    let to = word_end(s, from);
+    let n = read_number(&s[from..to]);
+    Operand {
+        ok: n.ok,
+        value: n.value,
+        next: to,
+    }
+}
+
+// The next number, if the statement has one there.
 fn read_operand(s: &[u8], at: usize, wanted: bool) -> Operand
     requires { ⌜ at ≤ length (now s) ⌝ }
     ensures { λ r. ⌜ OperandAt (now (s .entry)) at wanted r ⌝ }
@@ -244,14 +258,7 @@ fn read_operand(s: &[u8], at: usize, wanted: bool) -> Operand
             next: at,
         };
     }
-    let from = skip_blanks(s, at);
-    let to = word_end(s, from);
-    let n = read_number(&s[from..to]);
-    Operand {
-        ok: n.ok,
-        value: n.value,
-        next: to,
-    }
+    next_operand(s, at)
 }
 
 fn no_record() -> Record
@@ -278,19 +285,35 @@ fn without_record(fault: u32) -> LineResult
     }
 }
 
-// The record of a statement, or refusal 32.
-fn with_record(kind: u32, width: u64, port: u64, value: u64) -> LineResult
-    ensures { λ r. ⌜ r ≡ resultOf (scriptRecord kind width port value) ⌝ }
+// Does each number fit its field, and has the record none of refusal 4?
+fn fits(kind: u32, width: u64, port: u64, value: u64) -> bool
+    ensures { λ r. ⌜ r ≡ fitsFields (scriptRecord kind width port value) ⌝ }
 {
     if TOO_BIG <= width {
-        return without_record(outcome::NUMBER_TOO_BIG);
+        return false;
     }
     if MOST_PORT < port {
-        return without_record(outcome::NUMBER_TOO_BIG);
+        return false;
     }
     if TOO_BIG <= value {
-        return without_record(outcome::NUMBER_TOO_BIG);
+        return false;
     }
+    let r = Record {
+        mark: Record::SCRIPT_MARK,
+        kind,
+        width: width as u32,
+        port: port as u32,
+        target: 0,
+        value: value as u32,
+    };
+    script::good_fields(r)
+}
+
+// The record of a statement whose numbers fit.
+fn with_record(kind: u32, width: u64, port: u64, value: u64) -> LineResult
+    requires { ⌜ fitsFields (scriptRecord kind width port value) ≡ true ⌝ }
+    ensures { λ r. ⌜ r ≡ resultOf (scriptRecord kind width port value) ⌝ }
+{
     let found = Record {
         mark: Record::SCRIPT_MARK,
         kind,
@@ -299,9 +322,6 @@ fn with_record(kind: u32, width: u64, port: u64, value: u64) -> LineResult
         target: 0,
         value: value as u32,
     };
-    if !script::good_fields(found) {
-        return without_record(outcome::NUMBER_TOO_BIG);
-    }
     LineResult {
         fault: 0,
         statements: 1,
@@ -328,17 +348,6 @@ fn choose(test: bool, a: u64, b: u64) -> u64
     b
 }
 
-// The record of a statement with these operands, or refusal 32. A count is the value.
-fn with_operands(kind: u32, first: u64, second: u64, third: u64) -> LineResult
-    ensures { λ r. ⌜ r ≡ resultOf (recordWith kind (first ∷ second ∷ third ∷ [])) ⌝ }
-{
-    let counts = has_count(kind);
-    let width = choose(counts, 0, first);
-    let port = choose(counts, 0, second);
-    let value = choose(counts, first, third);
-    with_record(kind, width, port, value)
-}
-
 // The statement in a line without its comment, if there is one.
 fn read_statement(s: &[u8]) -> LineResult
     ensures { λ r. ⌜ r ≡ statementResult (now (s .entry)) ⌝ }
@@ -353,7 +362,13 @@ fn read_statement(s: &[u8]) -> LineResult
         return without_record(outcome::NOT_IN_GRAMMAR);
     }
     let count = operand_count(kind);
-    let first = read_operand(s, to, 0 < count);
+    if count == 0 {
+        if skip_blanks(s, to) != s.len() {
+            return without_record(outcome::NOT_IN_GRAMMAR);
+        }
+        return with_record(kind, 0, 0, 0);
+    }
+    let first = next_operand(s, to);
     if !first.ok {
         return without_record(outcome::NOT_IN_GRAMMAR);
     }
@@ -368,7 +383,15 @@ fn read_statement(s: &[u8]) -> LineResult
     if skip_blanks(s, third.next) != s.len() {
         return without_record(outcome::NOT_IN_GRAMMAR); // A word too many.
     }
-    with_operands(kind, first.value, second.value, third.value)
+    // A count is the value.
+    let counts = has_count(kind);
+    let width = choose(counts, 0, first.value);
+    let port = choose(counts, 0, second.value);
+    let value = choose(counts, first.value, third.value);
+    if !fits(kind, width, port, value) {
+        return without_record(outcome::NUMBER_TOO_BIG);
+    }
+    with_record(kind, width, port, value)
 }
 
 // ---- lines
