@@ -1,11 +1,13 @@
 // An access, its answer, and the status numbers. See docs/CHIP.md, "Accesses".
 // The register blocks take an `Access` and return an `Answer`. `device` passes the access to the block that owns the port.
+#![tactic(auto)]
+
 ghost use Rattle.std.specs.Prelude.{◌≡◌};
 ghost use Rattle.access.specs.Block.{takes_byte};
 ghost use Rattle.access.specs.Status.{done, status_only, read_value};
 
 // `value` is the value to write. A read ignores it.
-#[derive(Drop)]
+#[derive(Clone, Copy)]
 pub struct Access {
     pub write: bool,
     pub width: u32,
@@ -13,7 +15,7 @@ pub struct Access {
     pub value: u32,
 }
 
-#[derive(Drop)]
+#[derive(Clone, Copy)]
 pub struct Answer {
     pub status: u32,
     pub value: u32,

@@ -1,6 +1,8 @@
 // The ACPI block: its state, resets, events, settling and outputs. A register is named by its offset from AC00h. See
 // docs/CHIP.md, "ACPI". `device` calls it. registers.rt and setup.rt have the registers, map.rt the maps of the pins, and
 // bytes.rt the saved form.
+#![tactic(auto)]
+
 mod bytes;
 mod map;
 mod registers;
@@ -27,7 +29,7 @@ ghost use Rattle.acpi.specs.Settle.{pending, sci_on, smi_on, wake};
 use access::{Access, Answer};
 
 // The order of the fields leaves no padding between them, and was chosen for speed. See bench/README.md.
-#[derive(Drop)]
+#[derive(Clone, Copy)]
 pub struct Acpi {
     // The map and the level of each pin.
     pub maps: [u16; 8],
@@ -51,7 +53,7 @@ pub struct Acpi {
 }
 
 // The answer to an access, and the block after it.
-#[derive(Drop)]
+#[derive(Clone, Copy)]
 pub struct AccessResult {
     pub block: Acpi,
     pub answer: Answer,

@@ -15,7 +15,7 @@ const TEXT_SIZE: usize = 262_145;
 const RECORDS_SIZE: usize = Record::SIZE * 8192;
 
 // Refusal 0 and the length of the output in bytes, or a refusal with its place.
-#[derive(Drop)]
+#[derive(Clone, Copy)]
 struct Answer {
     refusal: u32,
     place: usize,

@@ -8,7 +8,7 @@ ghost use Rattle.assembler.specs.Assemble.{LineAt, LinesRead, assemble_result, b
 use record::Record;
 
 // Refusal 0 and the number of records, or a refusal with its place.
-#[derive(Drop)]
+#[derive(Clone, Copy)]
 pub struct AssembleResult {
     pub refusal: u32,
     pub place: usize,
@@ -67,7 +67,7 @@ fn next_line(text: &[u8], end: usize) -> usize
 }
 
 // Where a line is in the text. The line feed is not part of it.
-#[derive(Drop)]
+#[derive(Clone, Copy)]
 pub struct LineSpan {
     pub from: usize,
     pub to: usize,

@@ -37,7 +37,7 @@ ghost use Rattle.bays.specs.Lines.{
 use crate::once::Once;
 
 // BCER: LOCK_CTL, BAY_STREQ, REMREQ_EN, DEVSTSCHG_EN, REMEVTWAK_EN, PWR_CTL.
-#[derive(Drop)]
+#[derive(Clone, Copy)]
 pub struct Control {
     pub lock: bool,
     pub request: u8,
@@ -48,7 +48,7 @@ pub struct Control {
 }
 
 // The levels of the four lines; true for asserted.
-#[derive(Drop)]
+#[derive(Clone, Copy)]
 pub struct Lines {
     pub ieee1394: bool,
     pub usb: bool,
@@ -56,7 +56,7 @@ pub struct Lines {
     pub security: bool,
 }
 
-#[derive(Drop)]
+#[derive(Clone, Copy)]
 pub struct Bay {
     pub control: Control,
     // BAY_ST, and the sticky bits REMREQ_STS and DEVSTSCHG.

@@ -25,7 +25,7 @@ use crate::once::Once;
 use crate::registers::Decoded;
 use access::{Access, Answer};
 
-#[derive(Drop)]
+#[derive(Clone, Copy)]
 pub struct Bays {
     // Subsystem Vendor ID, Subsystem ID, and the capabilities register DBCCR.
     pub subvendor: Once,
@@ -36,7 +36,7 @@ pub struct Bays {
 }
 
 // The answer to an access, and the block after it.
-#[derive(Drop)]
+#[derive(Clone, Copy)]
 pub struct AccessResult {
     pub block: Bays,
     pub answer: Answer,

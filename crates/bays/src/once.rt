@@ -5,7 +5,7 @@ ghost use Rattle.bays.specs.Once.{after_write, fresh_once, write_status};
 
 use access::Answer;
 
-#[derive(Drop)]
+#[derive(Clone, Copy)]
 pub struct Once {
     pub value: u16,
     pub written: bool,

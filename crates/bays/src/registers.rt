@@ -8,7 +8,7 @@ use crate::{AccessResult, Bays};
 use access::Answer;
 
 // `Control` and `Status` are the registers of the bay with this number.
-#[derive(Drop)]
+#[derive(Clone, Copy)]
 pub enum Register {
     VendorId,
     RevisionId,
@@ -20,7 +20,7 @@ pub enum Register {
 }
 
 // An access leads to a register, or nowhere: then the answer is status 1.
-#[derive(Drop)]
+#[derive(Clone, Copy)]
 pub enum Decoded {
     To(Register),
     Nowhere,

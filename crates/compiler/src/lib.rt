@@ -13,7 +13,7 @@ ghost use Rattle.compiler.specs.Words.{word, image_bytes, words_of};
 use record::{Record, word_kind};
 
 // Refusal 0 and the number of words written, or a refusal with its place.
-#[derive(Drop)]
+#[derive(Clone, Copy)]
 pub struct CompileResult {
     pub refusal: u32,
     pub place: u32,

@@ -1,6 +1,8 @@
 // The configuration block: its registers, with key control. See docs/CHIP.md, "Configuration".
 // `device` calls it. The offset of an access is 0 for the index port and 1 for the data port. ports.rt has the two ports,
 // bytes.rt the saved form.
+#![tactic(auto)]
+
 mod bytes;
 mod ports;
 
@@ -18,7 +20,7 @@ ghost use Rattle.config.specs.Config.{
 use access::{Access, Answer};
 
 // The order of the fields was chosen for speed. See bench/README.md.
-#[derive(Drop)]
+#[derive(Clone, Copy)]
 pub struct Config {
     // The bases are stored as written, without their masks.
     pub runtime_base: u16,
@@ -32,7 +34,7 @@ pub struct Config {
     pub control: u8,
 }
 
-#[derive(Drop)]
+#[derive(Clone, Copy)]
 pub struct AccessResult {
     pub block: Config,
     pub answer: Answer,

@@ -20,7 +20,7 @@ pub const RESET: u32 = 6;
 const EVERY_BLOCK: u32 = 255;
 
 // A row of the table of kinds: the block that takes the event, or `NOBODY` for an unknown kind, and the greatest operand.
-#[derive(Drop)]
+#[derive(Clone, Copy)]
 struct KindRow {
     block: u32,
     greatest: u32,

@@ -16,7 +16,7 @@ use monitor::Monitor;
 
 // The largest block comes first. A device is copied 16 bytes at a time, and in this order the
 // two large blocks start at multiples of 16.
-#[derive(Drop)]
+#[derive(Clone, Copy)]
 pub struct Device {
     pub acpi: Acpi,
     pub key: Key,
@@ -25,7 +25,7 @@ pub struct Device {
 }
 
 // SCI, SMI and the monitor interrupt. They are levels, computed from the state. See docs/CHIP.md, "Outputs".
-#[derive(Drop)]
+#[derive(Clone, Copy)]
 pub struct Outputs {
     pub sci: bool,
     pub smi: bool,
@@ -33,7 +33,7 @@ pub struct Outputs {
 }
 
 // The block that owned the port when the access was made, its answer, and the device after the access.
-#[derive(Drop)]
+#[derive(Clone, Copy)]
 pub struct AccessResult {
     pub device: Device,
     pub owner: u32,

@@ -20,7 +20,7 @@ use access::{Access, Answer};
 
 // The reply to a single access. `refusal` is 0 if the access was made; then `owner` is the block that owned the port. Otherwise `refusal`
 // is the number of the refusal, and all other numbers are 0.
-#[derive(Drop)]
+#[derive(Clone, Copy)]
 pub struct AccessReply {
     pub refusal: u32,
     pub place: u32,
@@ -31,7 +31,7 @@ pub struct AccessReply {
 }
 
 // The reply to a single event, in the same form.
-#[derive(Drop)]
+#[derive(Clone, Copy)]
 pub struct EventReply {
     pub refusal: u32,
     pub place: u32,
@@ -39,13 +39,13 @@ pub struct EventReply {
 }
 
 // The reply, and the device after the call.
-#[derive(Drop)]
+#[derive(Clone, Copy)]
 pub struct SingleAccess {
     pub device: Device,
     pub reply: AccessReply,
 }
 
-#[derive(Drop)]
+#[derive(Clone, Copy)]
 pub struct SingleEvent {
     pub device: Device,
     pub reply: EventReply,

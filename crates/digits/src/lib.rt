@@ -1,12 +1,14 @@
 // Numbers and text in lines. `statement` and `replay` read them; `lister`, `replay`, `trace_text` and `refusal_text` write them. Printing is proved to
 // write the text that specs/Text.antt defines, and reading to return what specs/Read.antt defines. What is printed is read back: see proofs/ReadBack.antt.
+#![tactic(auto)]
+
 ghost use Rattle.std.specs.Prelude.{◌≡◌, ◌+◌, ◌%◌, ◌^◌, ◌<◌, length, nat_le};
 ghost use Rattle.digits.specs.Read.{digit_of, digit_at, is_space, number_at, next_number, byte_at};
 ghost use Rattle.digits.specs.Text.{line_at, put, puts, hex_digit, byte_text, hex_text, digit_text, decimal_text};
 
 // A hex number that was read, and the index after its last digit. If there is no number of one to eight digits, `ok` is false,
 // and the other two fields are of no use.
-#[derive(Drop)]
+#[derive(Clone, Copy)]
 pub struct Hex {
     pub ok: bool,
     pub value: u32,

@@ -16,7 +16,7 @@ use outcome::Refusal;
 use record::Record;
 
 // The answer. `outcome` is the ending or the number of a refusal, `place` the place of a refusal, 0 for an ending.
-#[derive(Drop)]
+#[derive(Clone, Copy)]
 pub struct InterpretResult {
     pub outcome: u32,
     pub place: u32,
@@ -27,7 +27,7 @@ pub struct InterpretResult {
 }
 
 // A script, and the place in it from which it is read. `interpret` reads from place 0.
-#[derive(Drop)]
+#[derive(Clone, Copy)]
 struct Reader<'a> {
     script: &'a [u8],
     place: usize,

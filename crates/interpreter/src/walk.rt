@@ -32,7 +32,7 @@ use step::{COUNTERS, execute};
 
 // The state of a walk, besides its device and its loop counters: the place of the next record, and the numbers of repeats around it, of
 // events taken and of values logged.
-#[derive(Drop)]
+#[derive(Clone, Copy)]
 pub struct Position {
     pub used: usize,
     pub taken: usize,
@@ -41,7 +41,7 @@ pub struct Position {
 }
 
 // What a repeat, an else or an end changes, and whether it counts a step: 1 or 0.
-#[derive(Drop)]
+#[derive(Clone, Copy)]
 pub struct ControlResult {
     pub used: usize,
     pub place: usize,

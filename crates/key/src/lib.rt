@@ -1,5 +1,7 @@
 // The key block: 32 key bytes, under the locks of key control. See docs/CHIP.md, "Key".
 // `device` calls it. Key control belongs to the configuration, so the device passes it with each access.
+#![tactic(auto)]
+
 ghost use Rattle.std.specs.Prelude.{◌≡◌, ◌%◌, ◌<◌, length};
 ghost use Rattle.access.specs.Block.{with_block, status};
 ghost use Rattle.key.specs.Key.{fresh_key, key_reset, key_read, key_write, key_access};
@@ -7,12 +9,12 @@ ghost use Rattle.key.specs.Saved.{key_bytes, key_from, key_size};
 
 use access::{Access, Answer};
 
-#[derive(Drop)]
+#[derive(Clone, Copy)]
 pub struct Key {
     pub bytes: [u8; 32],
 }
 
-#[derive(Drop)]
+#[derive(Clone, Copy)]
 pub struct AccessResult {
     pub block: Key,
     pub answer: Answer,

@@ -29,7 +29,7 @@ ghost use Rattle.lister.specs.Listing.{
 use record::Record;
 
 // Refusal 0 and the length of the listing, or a refusal with its place.
-#[derive(Drop)]
+#[derive(Clone, Copy)]
 pub struct ListResult {
     pub refusal: u32,
     pub place: u32,

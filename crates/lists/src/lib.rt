@@ -1,5 +1,7 @@
 // Lists of tests, slices, stores and stacks: definitions and laws that several crates share. The only function copies bytes into a slice;
 // `state` and `sequencer_state` call it.
+#![tactic(auto)]
+
 ghost use Rattle.std.specs.Prelude.{◌≡◌, ◌+◌, ◌≤◌, length};
 ghost use Rattle.std.proofs.Math.Seq.{paste};
 

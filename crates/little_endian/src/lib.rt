@@ -1,5 +1,7 @@
 // Numbers of two and four bytes, least significant byte first. See docs/CHIP.md, "Records", and docs/STATE.md.
 // `record`, `sequencer_state` and the saved forms of the register blocks use it.
+#![tactic(auto)]
+
 ghost use Rattle.std.specs.Prelude.{◌≡◌, ◌+◌, ◌≤◌, length};
 ghost use Rattle.little_endian.specs.Bytes.{byte0, byte1, byte2, byte3, two, four, two_at, four_at};
 

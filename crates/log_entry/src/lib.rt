@@ -1,5 +1,7 @@
 // An entry of the log: the value of a read, and the block that owned its port, in one 64-bit number. So the log has one length, and a read
 // stores one number. `step` makes the entries; the programs and `runnelopal` take them apart. See docs/CHIP.md, "Runs".
+#![tactic(auto)]
+
 ghost use Rattle.std.specs.Prelude.{◌≡◌};
 ghost use Rattle.log_entry.specs.Entry.{log_entry, entry_owner, entry_value};
 

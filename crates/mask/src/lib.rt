@@ -1,5 +1,7 @@
 // Masks of registers, and write 1 to clear. See docs/CHIP.md, "Accesses". The register blocks and `device` use it.
 // "Bits outside a register's mask are dropped and read 0."
+#![tactic(auto)]
+
 ghost use Rattle.std.specs.Prelude.{◌≡◌};
 ghost use Rattle.std.specs.Int.Bits.{bit_and};
 ghost use Rattle.mask.specs.Mask.{within, cleared, has_bit};

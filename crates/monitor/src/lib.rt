@@ -1,5 +1,7 @@
 // The monitor: an index register, and a data register that accesses the register at the index. See docs/CHIP.md, "Monitor".
 // `device` calls it and knows its ports. tables.rt has the register table, bytes.rt the saved form.
+#![tactic(auto)]
+
 mod bytes;
 mod tables;
 
@@ -27,13 +29,13 @@ ghost use Rattle.monitor.specs.Table.{kind_of, mask_of, reset_of, slot_of};
 use access::{Access, Answer};
 
 // Only registers that can change are stored: 40h, 7Ch, 7Eh, 80h to 83h, 90h, 91h and B5h to B7h, in this order.
-#[derive(Drop)]
+#[derive(Clone, Copy)]
 pub struct Monitor {
     pub index: u8,
     pub registers: [u8; 12],
 }
 
-#[derive(Drop)]
+#[derive(Clone, Copy)]
 pub struct AccessResult {
     pub block: Monitor,
     pub answer: Answer,

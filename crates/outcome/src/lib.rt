@@ -2,7 +2,9 @@
 // The crates that refuse a call or end a run use them. There is no code here.
 
 // Number 0 means that nothing was refused.
-#[derive(Drop)]
+#![tactic(auto)]
+
+#[derive(Clone, Copy)]
 pub struct Refusal {
     pub number: u32,
     pub place: u32,

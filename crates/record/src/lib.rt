@@ -1,6 +1,8 @@
 // The record of 12 bytes that scripts and images share. See docs/CHIP.md, "Records".
 // `script`, `compiler`, `interpreter` and `lister` read the records of a script, `assembler` writes them. `compiler` writes words, `sequencer` reads them.
 // `word_kind` has the kinds of words; the kinds of records are in `script`.
+#![tactic(auto)]
+
 pub mod word_kind;
 
 ghost use Rattle.std.specs.Prelude.{◌≡◌, ◌+◌, ◌≤◌, length, drop, ◌++◌};
@@ -8,7 +10,7 @@ ghost use Rattle.record.specs.Record.{record_at, record_size, bytes_of};
 
 use little_endian::{byte0, byte1, byte2, byte3, four_at, two_at};
 
-#[derive(Drop)]
+#[derive(Clone, Copy)]
 pub struct Record {
     pub mark: u32,
     pub kind: u32,

@@ -130,7 +130,7 @@ pub const INTERPRET: u8 = b'N';
 
 // The parts of a command: its letter, the budget, the length of the log, and the index and the
 // number of the events and the bytes in the line.
-#[derive(Drop)]
+#[derive(Clone, Copy)]
 struct RunRequest {
     letter: u8,
     budget: u32,

@@ -10,7 +10,7 @@ pub const ASSEMBLE: u8 = b'A';
 pub const LIST: u8 = b'D';
 
 // A refusal with its place, or 0 and how much was written: words, records or bytes.
-#[derive(Drop)]
+#[derive(Clone, Copy)]
 pub struct Reply {
     pub refusal: u32,
     pub place: u32,

@@ -2,7 +2,7 @@
 use device::Device;
 use step::Sequencer;
 
-#[derive(Drop)]
+#[derive(Clone, Copy)]
 pub struct Session {
     pub device: Device,
     pub sequencer: Sequencer,

@@ -1,7 +1,7 @@
 // Byte strings in a line: where they are, and their bytes. See docs/CASES.md, "Lines".
 
 // A byte string in a line: its index, the number of its bytes, and the index after it. `ok` is false if there is none.
-#[derive(Drop)]
+#[derive(Clone, Copy)]
 pub struct Bytes {
     pub ok: bool,
     pub at: usize,

@@ -22,7 +22,7 @@ use step::{COUNTERS, Sequencer};
 
 // The outputs of the chip: SCI, SMI and the monitor interrupt.
 #[repr(C)]
-#[derive(Drop)]
+#[derive(Clone, Copy)]
 pub struct OutputLevels {
     pub sci: bool,
     pub smi: bool,
@@ -31,7 +31,7 @@ pub struct OutputLevels {
 
 // `refusal` is 0 if the script was compiled into `words` words.
 #[repr(C)]
-#[derive(Drop)]
+#[derive(Clone, Copy)]
 pub struct CompileAnswer {
     pub refusal: u32,
     pub place: u32,
@@ -40,7 +40,7 @@ pub struct CompileAnswer {
 
 // `refusal` is 0 if the text script was read into `records` records. The place is the number of a line.
 #[repr(C)]
-#[derive(Drop)]
+#[derive(Clone, Copy)]
 pub struct AssembleAnswer {
     pub refusal: u32,
     pub place: usize,
@@ -49,7 +49,7 @@ pub struct AssembleAnswer {
 
 // `refusal` is 0 if the listing, of `length` bytes, was written.
 #[repr(C)]
-#[derive(Drop)]
+#[derive(Clone, Copy)]
 pub struct ListAnswer {
     pub refusal: u32,
     pub place: u32,
@@ -59,7 +59,7 @@ pub struct ListAnswer {
 // `outcome` is the ending of a run or the number of a refusal, `place` the place of a refusal, 0 for an ending. After a refusal all other
 // numbers are 0, and the outputs false.
 #[repr(C)]
-#[derive(Drop)]
+#[derive(Clone, Copy)]
 pub struct RunAnswer {
     pub outcome: u32,
     pub place: u32,
@@ -70,7 +70,7 @@ pub struct RunAnswer {
 }
 
 #[repr(C)]
-#[derive(Drop)]
+#[derive(Clone, Copy)]
 pub struct AccessAnswer {
     pub refusal: u32,
     pub place: u32,
@@ -81,7 +81,7 @@ pub struct AccessAnswer {
 }
 
 #[repr(C)]
-#[derive(Drop)]
+#[derive(Clone, Copy)]
 pub struct OutputsAnswer {
     pub refusal: u32,
     pub place: u32,
@@ -90,7 +90,7 @@ pub struct OutputsAnswer {
 
 // `place` is the place of the next word; a refusal has place 0.
 #[repr(C)]
-#[derive(Drop)]
+#[derive(Clone, Copy)]
 pub struct SequencerAnswer {
     pub refusal: u32,
     pub place: u32,

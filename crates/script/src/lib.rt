@@ -1,5 +1,7 @@
 // Checks a script: refusals 1 to 8, or the number of words that the compiler makes from it. The compiler calls `scan` first. The
 // checks of fields also serve words, in `step`, and text scripts, in `statement` and `lister`. See docs/CHIP.md, "Scripts" and "Refusals".
+#![tactic(auto)]
+
 ghost use Rattle.std.specs.Prelude.{◌≡◌, cond, ◌≤◌, ◌/◌, eqb, length};
 ghost use Rattle.lists.specs.Stack.{stack_of};
 ghost use Rattle.record.specs.Record.{most_records, record_size};
@@ -19,7 +21,7 @@ ghost use Rattle.script.specs.Scan.{
 use record::Record;
 
 // The result of a scan: a refusal with its place, or number 0 and the number of words.
-#[derive(Drop)]
+#[derive(Clone, Copy)]
 pub struct ScanResult {
     pub number: u32,
     pub place: u32,

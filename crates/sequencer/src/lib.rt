@@ -25,7 +25,7 @@ use step::execute::Position;
 use step::{COUNTERS, Sequencer, execute, word};
 
 // The answer of a run. `outcome` is the ending or the number of a refusal, `place` the place of a refusal, 0 for an ending.
-#[derive(Drop)]
+#[derive(Clone, Copy)]
 pub struct RunResult {
     pub outcome: u32,
     pub place: u32,

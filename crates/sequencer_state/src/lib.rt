@@ -20,7 +20,7 @@ pub const SIZE: usize = 4 * (2 + COUNTERS);
 
 // What `load` returns. Both fields are private: a caller gets a sequencer from `sequencer_or` only, and has to name the sequencer that stays in use
 // after a refusal.
-#[derive(Drop)]
+#[derive(Clone, Copy)]
 pub struct LoadResult {
     refusal: Refusal,
     sequencer: Sequencer,

@@ -32,7 +32,7 @@ pub const SIZE: usize = ACPI_START + Acpi::SIZE;
 
 // What `load` returns. Both fields are private: a caller gets a device from `device_or` only, and has to name the device that stays in use
 // after a refusal.
-#[derive(Drop)]
+#[derive(Clone, Copy)]
 pub struct LoadResult {
     refusal: Refusal,
     device: Device,

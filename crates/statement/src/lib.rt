@@ -31,7 +31,7 @@ ghost use Rattle.statement.specs.Line.{
 use record::Record;
 
 // What a line means: its fault, or the number of its statements, 0 or 1, and the record of its statement.
-#[derive(Drop)]
+#[derive(Clone, Copy)]
 pub struct LineResult {
     pub fault: u32,
     pub statements: usize,
@@ -39,14 +39,14 @@ pub struct LineResult {
 }
 
 // A word that was read as a number. The value stops at `TOO_BIG`.
-#[derive(Drop)]
+#[derive(Clone, Copy)]
 pub struct Number {
     pub ok: bool,
     pub value: u64,
 }
 
 // A number that was read, and the index after its word.
-#[derive(Drop)]
+#[derive(Clone, Copy)]
 pub struct Operand {
     pub ok: bool,
     pub value: u64,

@@ -14,7 +14,7 @@ use record::{Record, word_kind};
 
 // The state of a run, besides its device and its counters: the place of the next word, and the numbers of counters in use, of
 // events taken and of values logged.
-#[derive(Drop)]
+#[derive(Clone, Copy)]
 pub struct Position {
     pub used: usize,
     pub taken: usize,
@@ -69,7 +69,7 @@ pub fn access_of(word: Record) -> Access
 
 // What a control word changes. The other two fields of `Position` are not passed: copying a field right after it was stored
 // causes a store-forwarding stall.
-#[derive(Drop)]
+#[derive(Clone, Copy)]
 pub struct ControlResult {
     pub used: usize,
     pub place: u32,

@@ -12,7 +12,7 @@ use record::Record;
 pub const COUNTERS: usize = 8;
 
 // The place of the next word, and the loop counters, outermost loop first. `used` of them are in use; the others are 0.
-#[derive(Drop)]
+#[derive(Clone, Copy)]
 pub struct Sequencer {
     pub place: u32,
     pub counters: [u32; COUNTERS],

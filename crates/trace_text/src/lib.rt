@@ -5,7 +5,7 @@ ghost use Rattle.digits.specs.Text.{line_at, puts};
 ghost use Rattle.trace_text.specs.Printed.{read_text, reads_text, end_text, printed, log_size, text_size};
 
 // The numbers of an answer that the text shows. `outcome` is the ending or the number of a refusal, `place` the place of a refusal.
-#[derive(Drop)]
+#[derive(Clone, Copy)]
 pub struct Summary {
     pub outcome: u32,
     pub place: u32,

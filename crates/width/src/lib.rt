@@ -1,5 +1,7 @@
 // The width of an access (1, 2 or 4 bytes) and the values that fit it. See docs/CHIP.md, "Accesses".
 // `access`, `device` and `script` use it.
+#![tactic(auto)]
+
 ghost use Rattle.std.specs.Prelude.{◌≡◌};
 ghost use Rattle.width.specs.Width.{is_width, all_ones, fits_width};
 
