@@ -10,7 +10,7 @@ use borrow.Author.Tests.{le-leb, lt-leb}
 use lib.Dec.{eqb, leb}
 use lib.ListN.{length, length-append}
 use Rattle.access.specs.declared.Access.{Access}
-use Rattle.record.specs.WordKind as wordKind
+use Rattle.record.specs.WordKind as word_kind
 use Rattle.record.specs.declared.Record.{Record}
 use Rattle.script.specs.Refusals.{innermost, outer}
 use Rattle.semantics.specs.World.{
@@ -109,12 +109,12 @@ module _ (L : List ℕ) (A : List AccessEntry) where
       let f = machine_after L A in
       let w = m.world in
       let next = suc m.place in
-      choose f (eqb r.kind wordKind.write) (ap (machine next m.counters) (write_after r.port r.width r.value w))
-      (choose f (eqb r.kind wordKind.read) (ap (machine next m.counters) (read_after r.port r.width w))
-      (choose f (eqb r.kind wordKind.delay) (ap (machine next m.counters) (delay_after r.value w))
-      (choose f (eqb r.kind wordKind.enter) (choose f (eqb r.value 0) refl refl)
-      (choose f (eqb r.kind wordKind.loop_end) (choose f (eqb (innermost m.counters - 1) 0) refl refl)
-      (choose f (eqb r.kind wordKind.test)
+      choose f (eqb r.kind word_kind.write) (ap (machine next m.counters) (write_after r.port r.width r.value w))
+      (choose f (eqb r.kind word_kind.read) (ap (machine next m.counters) (read_after r.port r.width w))
+      (choose f (eqb r.kind word_kind.delay) (ap (machine next m.counters) (delay_after r.value w))
+      (choose f (eqb r.kind word_kind.enter) (choose f (eqb r.value 0) refl refl)
+      (choose f (eqb r.kind word_kind.loop_end) (choose f (eqb (innermost m.counters - 1) 0) refl refl)
+      (choose f (eqb r.kind word_kind.test)
       (rw (same_test r.port r.width r.value w, test_after r.port r.width w)) refl)))))
 
   -- ---- one step
@@ -134,7 +134,7 @@ module _ (L : List ℕ) (A : List AccessEntry) where
         rw (fault_after m)
         (choose f (leb (image_words image) m.place) refl
         (choose f (eqb (fault_at image room m) 0)
-        (choose f (eqb r.kind wordKind.halt) refl (ap continues (execute_after r m))) refl))
+        (choose f (eqb r.kind word_kind.halt) refl (ap continues (execute_after r m))) refl))
 
     -- ---- a run
     run_after :

@@ -15,7 +15,7 @@ use Rattle.compiler.specs.Compile.{compile_result, image_after}
 use Rattle.compiler.specs.Words.{place_after, emit, halt, image_bytes, words_of}
 use Rattle.device.specs.Device.{device_in_range}
 use Rattle.device.specs.declared.Device.{Device}
-use Rattle.interpreter.specs.Walk.{halt as walkHalt, script_walk, walk}
+use Rattle.interpreter.specs.Walk.{halt as walk_halt, script_walk, walk}
 use Rattle.record.specs.declared.Record.{Record}
 use Rattle.script.proofs.Flat.{accepts}
 use Rattle.script.proofs.Loops.{fields_within, FieldsWithin, loops_within, LoopsWithin}
@@ -77,7 +77,7 @@ module _ (b : Body) (loops : LoopsWithin 0 b) (fields : FieldsWithin b) (ports :
   -- it ends as the walk of the body does, at every budget and every length of the log
   body_run :
       (d : Device) (events : List ℕ) (budget room : ℕ)
-      → SameEnd (place_after 0 b) (walk budget room b (walkHalt budget) (run (start_world d events) 0))
+      → SameEnd (place_after 0 b) (walk budget room b (walk_halt budget) (run (start_world d events) 0))
       (image_run (image_bytes words) d fresh_sequencer events budget room)
   unfolding image_run
   body_run d events budget room =
@@ -86,7 +86,7 @@ module _ (b : Body) (loops : LoopsWithin 0 b) (fields : FieldsWithin b) (ports :
       let at : At image 0 words = lies words (all_fit_lem b 0 (halt ∷ []) fields ports (omega arith) (halt_fits, tt)) in
       let inside : last < image_words image = omega (arith, counted_words) in
       let stop = lies_after image b 0 (halt ∷ []) at in
-      (simulates image budget room last b 0 [] (walkHalt budget) (halt ∷ []) at inside loops fields
+      (simulates image budget room last b 0 [] (walk_halt budget) (halt ∷ []) at inside loops fields
       (λ r. halts_there (step_halt image room last [] r.world inside stop.0)) (run (start_world d events) 0)).ends budget (omega arith)
 
 -- ---- the call of `run`

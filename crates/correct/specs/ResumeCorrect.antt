@@ -19,9 +19,9 @@ events_left first events = drop first.taken events
 abbrev pub room_left : RunResult → List ℕ → List ℕ
 room_left first log = drop first.logged log
 
--- two runs, one after the other, add up to the whole run. `first_log` and `wholeLog` are the log after the first and after the whole run,
--- `secondLog` is the part that the second run had, after it
-pub record AddUp (first second whole : RunResult) (first_log secondLog wholeLog : List ℕ) : Type 0 where
+-- two runs, one after the other, add up to the whole run. `first_log` and `whole_log` are the log after the first and after the whole run,
+-- `second_log` is the part that the second run had, after it
+pub record AddUp (first second whole : RunResult) (first_log second_log whole_log : List ℕ) : Type 0 where
   pub same_outcome : whole.outcome ≡ second.outcome
   pub same_place : whole.place ≡ second.place
   pub same_device : whole.device ≡ second.device
@@ -29,7 +29,7 @@ pub record AddUp (first second whole : RunResult) (first_log secondLog wholeLog 
   pub steps_added : whole.steps ≡ first.steps + second.steps
   pub taken_added : whole.taken ≡ first.taken + second.taken
   pub logged_added : whole.logged ≡ first.logged + second.logged
-  pub same_log : wholeLog ≡ take first.logged first_log ++ secondLog
+  pub same_log : whole_log ≡ take first.logged first_log ++ second_log
 
 -- the list of accesses of the whole run is that of the first run, then that of the second one
 abbrev pub AccessesAddUp : (first second whole : RunEnd) → Type 0

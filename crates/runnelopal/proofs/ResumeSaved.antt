@@ -16,10 +16,10 @@ use Rattle.outcome.specs.Refusal.{refusal}
 use Rattle.sequencer.proofs.Endings.{image_run_ends}
 use Rattle.sequencer.specs.Run.{bad_image, image_run, is_refusal, log_after, run_answer, run_refusal}
 use Rattle.sequencer.specs.declared.RunResult.{RunResult}
-use Rattle.sequencer_state.specs.State.{holds_sequencer, saved as savedSequencer, sequencer_bytes, sequencer_from, sequencer_size}
+use Rattle.sequencer_state.specs.State.{holds_sequencer, saved as sequencer_saved, sequencer_bytes, sequencer_from, sequencer_size}
 use Rattle.state.proofs.RoundTrip.{state_length, state_saved}
 use Rattle.state.proofs.Slices.{holds_length, holds_saved}
-use Rattle.state.specs.State.{device_from, holds_device, is_saved, saved as savedDevice, state_bytes, state_size}
+use Rattle.state.specs.State.{device_from, holds_device, is_saved, saved as device_saved, state_bytes, state_size}
 use Rattle.step.specs.declared.Sequencer.{Sequencer}
 use Rattle.runnelopal.specs.Answers.{exported_run, levels_unless_refused, refused_answer}
 use Rattle.runnelopal.specs.Calls.{AfterRun, after_run, device_after, held_run, ran_from, saved_run, sequencer_after, unheld_refusal}
@@ -29,12 +29,12 @@ use Rattle.runnelopal.specs.ResumeSaved.{LoadsBack, ResumeSaved, SavedAddUp}
 holds_bytes : (d : Device) → holds_device (state_bytes d) ≡ true
 holds_bytes d = sym (holds_saved (state_bytes d) (state_length d)) ∙ state_saved d
 
-saved_device : (d : Device) (bytes : List ℕ) → length bytes ≡ state_size → savedDevice d bytes ≡ state_bytes d
-unfolding savedDevice
+saved_device : (d : Device) (bytes : List ℕ) → length bytes ≡ state_size → device_saved d bytes ≡ state_bytes d
+unfolding device_saved
 saved_device d bytes n = rw (eq-eqb (length bytes) state_size n)
 
-saved_sequencer : (s : Sequencer) (bytes : List ℕ) → holds_sequencer bytes ≡ true → savedSequencer s bytes ≡ sequencer_bytes s
-unfolding savedSequencer
+saved_sequencer : (s : Sequencer) (bytes : List ℕ) → holds_sequencer bytes ≡ true → sequencer_saved s bytes ≡ sequencer_bytes s
+unfolding sequencer_saved
 saved_sequencer s bytes h = rw h
 
 -- ---- a run from bytes that hold a device and a sequencer

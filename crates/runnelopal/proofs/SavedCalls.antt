@@ -19,9 +19,9 @@ use Rattle.script.specs.declared.ScanResult.{ScanResult}
 use Rattle.sequencer.specs.Run.{bad_image, is_refusal, log_after, run_answer}
 use Rattle.sequencer.specs.declared.RunResult.{RunResult}
 use Rattle.sequencer_state.proofs.Slices.{loaded_or as sequencer-loaded-or}
-use Rattle.sequencer_state.specs.State.{holds_sequencer, loaded as loadedSequencer, saved as savedSequencer, sequencer_from, sequencer_or}
+use Rattle.sequencer_state.specs.State.{holds_sequencer, loaded as sequencer_loaded, saved as sequencer_saved, sequencer_from, sequencer_or}
 use Rattle.state.proofs.Slices.{loaded_or}
-use Rattle.state.specs.State.{device_from, device_or, holds_device, loaded, saved as savedDevice}
+use Rattle.state.specs.State.{device_from, device_or, holds_device, loaded, saved as device_saved}
 use Rattle.step.specs.Sequencer.{fresh_sequencer, sequencer_in_range}
 use Rattle.step.specs.declared.Sequencer.{Sequencer}
 use Rattle.runnelopal.specs.Answers.{exported_interpret, levels, levels_unless_refused, refused_answer, exported_run}
@@ -113,7 +113,7 @@ pub held_device : (bytes : List ℕ) {d : Device} (x : Device) → holds_device 
 held_device bytes x h e = e ∙ loaded_or bytes x ∙ rw h
 
 pub held_sequencer :
-    (bytes : List ℕ) {s : Sequencer} (x : Sequencer) → holds_sequencer bytes ≡ true → s ≡ sequencer_or (loadedSequencer bytes) x → s ≡ sequencer_from bytes
+    (bytes : List ℕ) {s : Sequencer} (x : Sequencer) → holds_sequencer bytes ≡ true → s ≡ sequencer_or (sequencer_loaded bytes) x → s ≡ sequencer_from bytes
 held_sequencer bytes x h e = e ∙ sequencer-loaded-or bytes x ∙ rw h
 
 -- ---- valid bytes

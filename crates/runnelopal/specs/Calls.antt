@@ -12,8 +12,8 @@ use Rattle.outcome.specs.declared.Refusal.{Refusal}
 use Rattle.script.specs.Refusals.{script_refusal}
 use Rattle.sequencer.specs.Run.{bad_image, is_refusal, log_after, run_answer}
 use Rattle.sequencer.specs.declared.RunResult.{RunResult}
-use Rattle.sequencer_state.specs.State.{holds_sequencer, saved as savedSequencer, sequencer_from}
-use Rattle.state.specs.State.{device_from, holds_device, saved as savedDevice}
+use Rattle.sequencer_state.specs.State.{holds_sequencer, saved as sequencer_saved, sequencer_from}
+use Rattle.state.specs.State.{device_from, holds_device, saved as device_saved}
 use Rattle.step.specs.Sequencer.{sequencer_in_range}
 use Rattle.step.specs.declared.Sequencer.{Sequencer}
 use Rattle.runnelopal.specs.Answers.{
@@ -58,10 +58,10 @@ after_run a device sequencer log = record { answer = a; device = device; sequenc
 
 -- the bytes after a run; a refused run leaves them unchanged
 abbrev pub device_after : (outcome : ℕ) → Device → List ℕ → List ℕ
-device_after outcome d bytes = cond (is_refusal outcome) bytes (savedDevice d bytes)
+device_after outcome d bytes = cond (is_refusal outcome) bytes (device_saved d bytes)
 
 abbrev pub sequencer_after : (outcome : ℕ) → Sequencer → List ℕ → List ℕ
-sequencer_after outcome s bytes = cond (is_refusal outcome) bytes (savedSequencer s bytes)
+sequencer_after outcome s bytes = cond (is_refusal outcome) bytes (sequencer_saved s bytes)
 
 -- the run from the device and the sequencer that the bytes hold. r is its result, and log' the log after it
 abbrev pub ran_from : RunResult → (device sequencer log' : List ℕ) → AfterRun

@@ -6,7 +6,7 @@ use Rattle.device.specs.Dispatch.{device_access}
 use Rattle.device.specs.declared.Device.{Device}
 use Rattle.device.specs.declared.AccessResult.{AccessResult}
 use Rattle.semantics.specs.World.{after_next_event, read_of, write_of}
-use Rattle.record.specs.WordKind as wordKind
+use Rattle.record.specs.WordKind as word_kind
 use Rattle.record.specs.declared.Record.{Record}
 use Rattle.step.specs.Sequencer.{counter_array, counter_count}
 use Rattle.step.specs.Step.{Machine, execute, log_filled}
@@ -34,7 +34,7 @@ run_state d x cs = record {
 
 -- control words: enter, loop end, jump
 abbrev pub is_control : Record → Bool
-is_control r = eqb r.kind wordKind.enter || (eqb r.kind wordKind.loop_end || eqb r.kind wordKind.jump)
+is_control r = eqb r.kind word_kind.enter || (eqb r.kind word_kind.loop_end || eqb r.kind word_kind.jump)
 
 -- x represents m; `lent` is the log before the run, `log` the log now
 pub record Represents (x : RunState) (events lent log : List ℕ) (m : Machine) : Type 0 where
@@ -75,18 +75,18 @@ KeepsCounters word x y = (cs : List ℕ) → KeepsDevice word x cs y cs
 
 -- ---- what `execute_control` and `apply_answer` require; it holds for every word without a fault (proofs/Faults.antt)
 pub record ControlReady (x : Position) (word : Record) : Type 0 where
-  pub enters : word.kind ≡ wordKind.enter → counter_count ≤ x.used → word.value ≡ 0
-  pub loops : word.kind ≡ wordKind.loop_end → 0 < x.used
+  pub enters : word.kind ≡ word_kind.enter → counter_count ≤ x.used → word.value ≡ 0
+  pub loops : word.kind ≡ word_kind.loop_end → 0 < x.used
   pub few : x.used ≤ counter_count
-  pub jumps : (word.kind ≡ wordKind.enter → ⊥) → (word.kind ≡ wordKind.loop_end → ⊥) → word.kind ≡ wordKind.jump
+  pub jumps : (word.kind ≡ word_kind.enter → ⊥) → (word.kind ≡ word_kind.loop_end → ⊥) → word.kind ≡ word_kind.jump
 
 pub record AccessReady (x : Position) (word : Record) (log : List ℕ) : Type 0 where
-  pub reads : word.kind ≡ wordKind.read → x.logged < length log
-  pub tests : (word.kind ≡ wordKind.write → ⊥) → (word.kind ≡ wordKind.read → ⊥) → word.kind ≡ wordKind.test
+  pub reads : word.kind ≡ word_kind.read → x.logged < length log
+  pub tests : (word.kind ≡ word_kind.write → ⊥) → (word.kind ≡ word_kind.read → ⊥) → word.kind ≡ word_kind.test
 
 -- ---- the words that access the device
 abbrev pub access_of : Record → Access
-access_of r = cond (eqb r.kind wordKind.write) (write_of r.port r.width r.value) (read_of r.port r.width)
+access_of r = cond (eqb r.kind word_kind.write) (write_of r.port r.width r.value) (read_of r.port r.width)
 
 -- the step of the code does what the word does, given the owner and the value that the access returned after the next event
 abbrev pub ImplementsAccess : Record → (owner value : ℕ) → List ℕ → Position → List ℕ → Position → List ℕ → Type 0

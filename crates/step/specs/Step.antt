@@ -2,7 +2,7 @@
 -- See docs/CHIP.md, "Words" and "Runs".
 use Rattle.std.specs.Prelude.{ℕ, suc, ◌-◌, Bool, cond, not, ◌&&◌, List, ◌∷◌, ◌++◌, eqb, leb, drop, length}
 use Rattle.outcome.specs.Ending as ending
-use Rattle.record.specs.WordKind as wordKind
+use Rattle.record.specs.WordKind as word_kind
 use Rattle.record.specs.declared.Record.{Record}
 use Rattle.script.specs.Refusals.{innermost, outer}
 use Rattle.semantics.specs.World.{World, after_write, after_read, after_test, shares_one, after_delay}
@@ -25,15 +25,15 @@ target_beyond words r = uses_target r && leb words r.target
 
 -- 22: "ninth counter"
 abbrev pub ninth_counter : (used : ℕ) → Record → Bool
-ninth_counter used r = eqb r.kind wordKind.enter && (not (eqb r.value 0) && leb counter_count used)
+ninth_counter used r = eqb r.kind word_kind.enter && (not (eqb r.value 0) && leb counter_count used)
 
 -- 23: "loop end without one"
 abbrev pub no_counter : (used : ℕ) → Record → Bool
-no_counter used r = eqb r.kind wordKind.loop_end && eqb used 0
+no_counter used r = eqb r.kind word_kind.loop_end && eqb used 0
 
 -- 24: "log full"
 abbrev pub log_full : (room logged : ℕ) → Record → Bool
-log_full room logged r = eqb r.kind wordKind.read && leb room logged
+log_full room logged r = eqb r.kind word_kind.read && leb room logged
 
 -- the first fault, or 0: "20, 21 for the target (taken or not), 22 to 24"
 unfoldable pub word_fault : (words room used logged : ℕ) → Record → ℕ
@@ -65,12 +65,12 @@ test_word r m =
 -- "1, 2, 3 as above; 4 enter [..]; 5 loop end [..]; 6 test [..]; 7 jump"
 unfoldable pub execute : Record → Machine → Machine
 execute r m =
-    cond (eqb r.kind wordKind.write) (machine (suc m.place) m.counters (after_write r.port r.width r.value m.world))
-    (cond (eqb r.kind wordKind.read) (machine (suc m.place) m.counters (after_read r.port r.width m.world))
-    (cond (eqb r.kind wordKind.delay) (machine (suc m.place) m.counters (after_delay r.value m.world))
-    (cond (eqb r.kind wordKind.enter) (enter r m)
-    (cond (eqb r.kind wordKind.loop_end) (loop_end r m)
-    (cond (eqb r.kind wordKind.test) (test_word r m) (machine r.target m.counters m.world))))))
+    cond (eqb r.kind word_kind.write) (machine (suc m.place) m.counters (after_write r.port r.width r.value m.world))
+    (cond (eqb r.kind word_kind.read) (machine (suc m.place) m.counters (after_read r.port r.width m.world))
+    (cond (eqb r.kind word_kind.delay) (machine (suc m.place) m.counters (after_delay r.value m.world))
+    (cond (eqb r.kind word_kind.enter) (enter r m)
+    (cond (eqb r.kind word_kind.loop_end) (loop_end r m)
+    (cond (eqb r.kind word_kind.test) (test_word r m) (machine r.target m.counters m.world))))))
 
 -- ---- one step, without the budget
 pub data Step : Type 0 where
@@ -79,7 +79,7 @@ pub data Step : Type 0 where
   faults : ℕ → Step
 
 abbrev pub step_from : Record → ℕ → Machine → Step
-step_from r fault m = cond (eqb fault 0) (cond (eqb r.kind wordKind.halt) halts (continues (execute r m))) (faults fault)
+step_from r fault m = cond (eqb fault 0) (cond (eqb r.kind word_kind.halt) halts (continues (execute r m))) (faults fault)
 
 abbrev pub fault_at : List ℕ → ℕ → Machine → ℕ
 fault_at image room m =

@@ -3,7 +3,7 @@
 // `events_taken`. See docs/CHIP.md, "Words" and "Runs".
 ghost use Rattle.std.specs.Prelude.{◌≡◌, ◌≤◌, ◌<◌, length, drop};
 ghost use Rattle.record.specs.Record.{most_records};
-ghost use Rattle.record.specs.WordKind as wordKind;
+ghost use Rattle.record.specs.WordKind as word_kind;
 ghost use Rattle.semantics.specs.World.{events_after, read_of, write_of};
 ghost use Rattle.step.specs.Sequencer.{counter_count};
 ghost use Rattle.step.specs.Represents.{ImplementsAccess, AccessReady, ControlReady, KeepsDevice, KeepsCounters, access_of};
@@ -78,7 +78,7 @@ pub struct ControlResult {
 impl Position {
     // A count of 0 jumps over the loop and pushes no counter.
     fn enter(self, word: Record, counters: &mut [u32; COUNTERS]) -> ControlResult
-        requires { (self.place < most_records) × (word.kind ≡ wordKind.enter) × (counter_count ≤ self.used → word.value ≡ 0) }
+        requires { (self.place < most_records) × (word.kind ≡ word_kind.enter) × (counter_count ≤ self.used → word.value ≡ 0) }
         ensures { KeepsDevice word self counters.old result counters.new }
     {
         let used = self.used;
@@ -99,7 +99,7 @@ impl Position {
 
     // Subtracts 1 from the top counter. A counter that reaches 0 is popped.
     fn loop_end(self, word: Record, counters: &mut [u32; COUNTERS]) -> ControlResult
-        requires { (self.place < most_records) × (word.kind ≡ wordKind.loop_end) × (0 < self.used) × (self.used ≤ counter_count) }
+        requires { (self.place < most_records) × (word.kind ≡ word_kind.loop_end) × (0 < self.used) × (self.used ≤ counter_count) }
         ensures { KeepsDevice word self counters.old result counters.new }
     {
         let top = self.used - 1;
@@ -117,7 +117,7 @@ impl Position {
     }
 
     fn jump(self, word: Record) -> ControlResult
-        requires { word.kind ≡ wordKind.jump }
+        requires { word.kind ≡ word_kind.jump }
         ensures { KeepsCounters word self result }
     {
         ControlResult {
