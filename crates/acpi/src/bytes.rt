@@ -116,6 +116,7 @@ impl Acpi {
         ]
     }
 
+    #[tactic(auto, unfolding(crate::specs::Saved::acpi_from))]
     pub fn from_bytes(bytes: &[u8]) -> Self
         requires { length bytes.now ≡ acpi_size }
         ensures { result ≡ acpi_from bytes.now }

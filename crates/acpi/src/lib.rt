@@ -188,6 +188,7 @@ impl Acpi {
     }
 
     // Resets 0 (PCI) and 1 (VCC) keep the block. Reset 2 (VTR) resets all of it except the pin levels.
+    #[tactic(auto, unfolding(crate::specs::Acpi::acpi_reset))]
     pub fn reset(self, level: u32) -> Self
         ensures { result ≡ acpi_reset self level }
     {
@@ -204,6 +205,7 @@ impl Acpi {
         }
     }
 
+    #[tactic(auto, unfolding(crate::specs::Acpi::acpi_in_range))]
     pub fn in_range(self) -> bool
         ensures { result ≡ acpi_in_range self }
     {
@@ -220,18 +222,21 @@ impl Acpi {
     }
 
     // Is there a status bit that is 1 and enabled?
+    #[tactic(auto, unfolding(crate::specs::Settle::pending))]
     pub fn pending(self) -> bool
         ensures { result ≡ pending self }
     {
         (self.pm1sts & self.pm1en != 0) | (self.gpe0sts & self.gpe0en != 0)
     }
 
+    #[tactic(auto, unfolding(crate::specs::Settle::sci_on))]
     pub fn sci(self) -> bool
         ensures { result ≡ sci_on self }
     {
         self.pending() & self.scien
     }
 
+    #[tactic(auto, unfolding(crate::specs::Settle::smi_on))]
     pub fn smi(self) -> bool
         ensures { result ≡ smi_on self }
     {
@@ -239,6 +244,7 @@ impl Acpi {
     }
 
     // A sleeping chip wakes up when a status bit is pending.
+    #[tactic(auto, unfolding(crate::specs::Settle::wake))]
     fn wake(mut self) -> Self
         ensures { result ≡ wake self }
     {
@@ -250,6 +256,7 @@ impl Acpi {
     }
 
     // `Device::settle` calls this after every access and every event.
+    #[tactic(auto, unfolding(crate::specs::Acpi::acpi_settle))]
     pub fn settle(self) -> Self
         ensures { result ≡ acpi_settle self }
     {
@@ -270,6 +277,7 @@ impl Acpi {
     }
 
     // An event has at most 65,535 ticks, so bit 23 has changed exactly if it differs before and after.
+    #[tactic(auto, unfolding(crate::specs::Event::ticked))]
     fn tick(mut self, ticks: u32) -> Self
         ensures { result ≡ ticked self ticks }
     {
@@ -283,6 +291,7 @@ impl Acpi {
     }
 
     // Sets the status bit that a map value selects, if it selects one.
+    #[tactic(auto, unfolding(crate::specs::Event::raise_mapped))]
     fn raise_mapped(mut self, value: u16) -> Self
         ensures { result ≡ raise_mapped self value }
     {
@@ -299,6 +308,7 @@ impl Acpi {
     }
 
     // Stores the new level of a pin. A change in the direction of its map sets the mapped status bit.
+    #[tactic(auto, unfolding(crate::specs::Event::pin_level))]
     fn pin_level(mut self, pin: usize, level: bool) -> Self
         requires { pin < 8 }
         ensures { result ≡ pin_level self pin level }
@@ -313,6 +323,7 @@ impl Acpi {
     }
 
     // An event, without the settling that follows. Kinds of other blocks do not change this block.
+    #[tactic(auto, unfolding(crate::specs::Acpi::acpi_event))]
     pub fn event(self, kind: u32, operand: u32) -> Self
         ensures { result ≡ acpi_event self kind operand }
     {
@@ -327,6 +338,7 @@ impl Acpi {
     }
 
     // An access to the register at an offset, without the settling that follows.
+    #[tactic(auto, unfolding(crate::specs::Acpi::acpi_access))]
     pub fn access(self, offset: u32, access: Access) -> AccessResult
         ensures { with_block result.answer result.block ≡ acpi_access self offset access }
     {
@@ -341,6 +353,7 @@ impl Acpi {
 }
 
 // Does the block have a register of this width at the offset?
+#[tactic(auto, unfolding(crate::specs::Registers::takes))]
 fn takes(offset: u32, width: u32) -> bool
     ensures { result ≡ takes offset width }
 {

@@ -5,6 +5,7 @@ ghost use Rattle.acpi.specs.Map.{in_direction, legal_map, legal_target};
 
 use crate::Acpi;
 
+#[tactic(auto, unfolding(crate::specs::Map::legal_map))]
 pub fn is_legal(value: u32) -> bool
     ensures { result ≡ legal_map value }
 {

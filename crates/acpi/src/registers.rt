@@ -25,6 +25,7 @@ impl Acpi {
     }
 
     // The value of the register at an offset. SMI_CMD reads 0.
+    #[tactic(auto, unfolding(crate::specs::Registers::register_value))]
     fn register_value(self, offset: u32) -> u32
         ensures { result ≡ register_value self offset }
     {
@@ -43,6 +44,7 @@ impl Acpi {
     }
 
     // A read of P_LVL2 or P_LVL3 sets the CPU state.
+    #[tactic(auto, unfolding(crate::specs::Registers::register_read))]
     pub(crate) fn register_read(mut self, offset: u32) -> AccessResult
         ensures { with_block result.answer result.block ≡ register_read self offset }
     {
@@ -69,6 +71,7 @@ impl Acpi {
     }
 
     // A write to SMI_CMD.
+    #[tactic(auto, unfolding(crate::specs::Registers::command_write))]
     fn command_write(mut self, value: u32) -> AccessResult
         ensures { with_block result.answer result.block ≡ command_write self value }
     {
@@ -86,6 +89,7 @@ impl Acpi {
     }
 
     // A write to PM1a_CNT.
+    #[tactic(auto, unfolding(crate::specs::Registers::control_write))]
     fn control_write(mut self, value: u32) -> AccessResult
         ensures { with_block result.answer result.block ≡ control_write self value }
     {
@@ -98,6 +102,7 @@ impl Acpi {
     }
 
     // P_LVL2, P_LVL3 and the timer are read-only.
+    #[tactic(auto, unfolding(crate::specs::Registers::register_write))]
     pub(crate) fn register_write(mut self, offset: u32, value: u32) -> AccessResult
         ensures { with_block result.answer result.block ≡ register_write self offset value }
     {

@@ -24,6 +24,7 @@ pub fn is_setup_index(index: u32) -> bool
 }
 
 impl Acpi {
+    #[tactic(auto, unfolding(crate::specs::Setup::setup_index_write))]
     pub(crate) fn setup_index_write(mut self, value: u32) -> AccessResult
         ensures { with_block result.answer result.block ≡ setup_index_write self value }
     {
@@ -35,6 +36,7 @@ impl Acpi {
     }
 
     // The value of SETUP_DATA. It is 0 under 00h and 40h; in range, no other index reaches the last case.
+    #[tactic(auto, unfolding(crate::specs::Setup::setup_value))]
     pub(crate) fn setup_value(self) -> u32
         ensures { result ≡ setup_value self }
     {
@@ -50,6 +52,7 @@ impl Acpi {
         }
     }
 
+    #[tactic(auto, unfolding(crate::specs::Setup::map_write))]
     fn map_write(mut self, pin: usize, value: u32) -> AccessResult
         requires { pin < 8 }
         ensures { with_block result.answer result.block ≡ map_write self pin value }
@@ -61,6 +64,7 @@ impl Acpi {
         AccessResult::status(Answer::IGNORED, self)
     }
 
+    #[tactic(auto, unfolding(crate::specs::Setup::irq_write))]
     fn irq_write(mut self, value: u32) -> AccessResult
         ensures { with_block result.answer result.block ≡ irq_write self value }
     {
@@ -72,6 +76,7 @@ impl Acpi {
     }
 
     // A write to SETUP_DATA. Under 00h every value is ignored; in range, no other index reaches the last case.
+    #[tactic(auto, unfolding(crate::specs::Setup::setup_write))]
     pub(crate) fn setup_write(self, value: u32) -> AccessResult
         ensures { with_block result.answer result.block ≡ setup_write self value }
     {
