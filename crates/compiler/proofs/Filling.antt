@@ -62,6 +62,11 @@ pub record Turn (script : List ℕ) (count : ℕ) (table waiting starts : List �
   pub within : k < count
   pub kind_is : kind ≡ (record_at script (record_size * k)).kind
 
+pub turn : {script : List ℕ} {count : ℕ} {table waiting starts : List ℕ} {depth place k kind : ℕ}
+    → Filling script count table waiting starts depth place k → k < count → kind ≡ (record_at script (record_size * k)).kind
+    → Turn script count table waiting starts depth place k kind
+turn f w k = record { filling = f; within = w; kind_is = k }
+
 either : (kind : ℕ) → 3 < kind → kind ≤ 5 → (kind ≡ 4) ⊎ (kind ≡ 5)
 either kind l m = pick (dec_lt kind 5)
   where

@@ -1,6 +1,8 @@
 // The compiler: checks a script, writes its words to the front of the image buffer, and returns their number or a refusal.
 // `compile` is the only public call; `trace`, `runnelopal` and `replay` use it. It relies on `script::scan` for refusals 1
 // to 8. See docs/CHIP.md, "Words" and "Refusals".
+#![tactic(auto)]
+
 ghost use Rattle.std.specs.Prelude.{◌≡◌, cond, [], ◌++◌, ◌+◌, ◌*◌, ◌≤◌, ◌/◌, eqb, ltb, length, take, drop, replicate};
 ghost use Rattle.record.specs.Record.{bytes_of, most_records, record_size};
 ghost use Rattle.script.specs.Kind as recordKind;
