@@ -1,5 +1,7 @@
 // The line that a program prints if a call is refused: `REFUSED`, the number and the place. `trace_text` puts it for `trace` and `interpret`; the
 // programs `assemble` and `list` write it by itself. specs/Refused.antt defines it.
+#![tactic(auto)]
+
 ghost use Rattle.std.specs.Prelude.{◌≡◌};
 ghost use Rattle.digits.specs.Text.{line_at, puts};
 ghost use Rattle.refusal_text.specs.Refused.{Put, numbers_text, refused_text};
