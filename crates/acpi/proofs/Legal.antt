@@ -1,12 +1,12 @@
 -- What follows for a number that passes a test of the ACPI block, and facts about SCI, SMI and the timer that several proofs use.
-use Rattle.std.proofs.Common.{◌≡◌, ℕ, suc, ◌+◌, ◌*◌, ◌%◌, ◌^◌, ◌<◌, ◌≤◌, Bool, true, false, not, ◌&&◌, ◌||◌, eqb, ltb, leb, ◌⊎◌, sym, refl, ◌∙◌, inl, inr, ⊎_elim, mod-eq_of_lt, one-mul, arith, eqb-true, le-leb, leb-true}
+use Rattle.std.proofs.Common.{◌≡◌, ℕ, suc, ◌+◌, ◌*◌, ◌%◌, ◌^◌, ◌<◌, ◌≤◌, Bool, true, false, not, ◌&&◌, ◌||◌, eqb, leb, ◌⊎◌, refl, ◌∙◌, inl, inr, ⊎_elim, mod-eq_of_lt, one-mul, arith, eqb-true, le-leb, leb-true}
 use mathlib.Core.Bool.{and-false}
 use borrow.Author.Tests.{lt-leb}
 use lib.Bits.{bit_and}
 use lib.Pow.{pow-lt}
 use Rattle.mask.proofs.Every.{and_both, and_left, and_right}
 use Rattle.acpi.specs.Event.{timer_size}
-use Rattle.acpi.specs.Map.{is_gpe_target, legal_map, legal_target, map_max, map_reserved}
+use Rattle.acpi.specs.Map.{legal_map, legal_target, map_max, map_reserved}
 use Rattle.acpi.specs.Settle.{pending, sci_on, smi_on}
 use Rattle.acpi.specs.Setup.{is_map_index, is_setup_index}
 use Rattle.acpi.specs.SetupIndex as index

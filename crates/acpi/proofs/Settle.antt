@@ -1,7 +1,7 @@
 -- Settling twice is the same as settling once: a pending status bit is still pending after WAKE_STS is set, and a settled block
 -- has no pending status bit, or is awake with CPU state 0.
 use Rattle.std.proofs.Common.{◌≡◌, ℕ, Bool, true, false, cond, ◌||◌, refl, ap, ◌∙◌}
-use mathlib.Core.Bool.{and-false, and-true, or-true}
+use mathlib.Core.Bool.{and-false, or-true}
 use lib.Bits.{bit_or}
 use Rattle.mask.proofs.HasBit.{has_or}
 use Rattle.mask.specs.Mask.{has_bit}

@@ -1,5 +1,5 @@
 -- `acpi::maps_in_range` returns true exactly if all maps are legal: at turn k of the loop `legal` says so of the first k maps.
-use Rattle.std.proofs.Common.{◌≡◌, ◌-◌, refl, arith}
+use Rattle.std.proofs.Common.{◌≡◌, refl, arith}
 use Rattle.mask.proofs.Every.{all_next}
 use Rattle.acpi.specs.Acpi.{map_in_range}
 use Rattle.acpi.proofs.maps_in_range.Goals as goal
