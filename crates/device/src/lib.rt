@@ -1,5 +1,7 @@
 // The chip: four register blocks on one bus, with reset, range check, outputs and settling. A call takes the device by value and
 // returns the next one. The sequencer, `state` and the programs use it. See docs/CHIP.md.
+#![tactic(auto)]
+
 pub mod dispatch;
 pub mod event;
 pub mod owner;
