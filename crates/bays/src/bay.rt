@@ -92,6 +92,7 @@ impl Control {
     }
 
     // What a read of BCER returns.
+    #[tactic(auto, unfolding(crate::specs::Bay::control_value))]
     pub fn value(self) -> u32
         ensures { result ≡ control_value self }
     {
@@ -176,6 +177,7 @@ impl Bay {
     }
 
     // Reset 2: the form factor and the lines stay. A bay with a device is then Inserted.
+    #[tactic(auto, unfolding(crate::specs::Bay::bay_reset))]
     pub fn reset(self) -> Self
         ensures { result ≡ bay_reset self }
     {
@@ -196,6 +198,7 @@ impl Bay {
         }
     }
 
+    #[tactic(auto, unfolding(crate::specs::Bay::bay_in_range))]
     pub fn in_range(self) -> bool
         ensures { result ≡ bay_in_range self }
     {
@@ -204,6 +207,7 @@ impl Bay {
     }
 
     // Is a sticky bit set and enabled?
+    #[tactic(auto, unfolding(crate::specs::Bay::bay_alert))]
     pub fn alert(self) -> bool
         ensures { result ≡ bay_alert self }
     {
@@ -217,6 +221,7 @@ impl Bay {
     }
 
     // What a read of BSTR returns. `seclock` is SECLOCK of DBCCR.
+    #[tactic(auto, unfolding(crate::specs::Bay::status_value))]
     pub fn status_value(self, seclock: bool) -> u32
         ensures { result ≡ status_value seclock self }
     {
@@ -230,6 +235,7 @@ impl Bay {
     }
 
     // BCER after a write. The power bit needs a device, and a lock control that was set before the write.
+    #[tactic(auto, unfolding(crate::specs::Bay::control_after))]
     fn control_after(self, value: u32) -> Control
         ensures { result ≡ control_after self value }
     {
@@ -251,6 +257,7 @@ impl Bay {
     }
 
     // The state that a write to BCER requests. Without a device the state stays.
+    #[tactic(auto, unfolding(crate::specs::Bay::requested_state))]
     fn requested_state(self, value: u32) -> u8
         ensures { result ≡ requested_state self value }
     {
@@ -262,6 +269,7 @@ impl Bay {
     }
 
     // DEVSTSCHG_EN set by a write to BCER, after DEVSTSCHG was set: an Empty bay with a device becomes Inserted.
+    #[tactic(auto, unfolding(crate::specs::Bay::late_insertion))]
     fn late_insertion(self, value: u32, state: u8) -> u8
         ensures { result ≡ late_insertion self value state }
     {
@@ -273,6 +281,7 @@ impl Bay {
     }
 
     // REMREQ_EN set by a write to BCER, after REMREQ_STS was set: a bay with a device becomes Removal Requested.
+    #[tactic(auto, unfolding(crate::specs::Bay::late_removal))]
     fn late_removal(self, value: u32, state: u8) -> u8
         ensures { result ≡ late_removal self value state }
     {
@@ -284,6 +293,7 @@ impl Bay {
     }
 
     // A write to BCER.
+    #[tactic(auto, unfolding(crate::specs::Bay::control_write))]
     pub fn control_write(mut self, value: u32) -> Self
         ensures { result ≡ control_write self value }
     {
@@ -297,6 +307,7 @@ impl Bay {
     }
 
     // A write to BSTR: 1 clears a sticky bit, and the first write stores the form factor.
+    #[tactic(auto, unfolding(crate::specs::Bay::status_write))]
     pub fn status_write(mut self, value: u32) -> Self
         ensures { result ≡ status_write self value }
     {
@@ -307,6 +318,7 @@ impl Bay {
         self
     }
 
+    #[tactic(auto, unfolding(crate::specs::Lines::insertion))]
     fn insertion(mut self) -> Self
         ensures { result ≡ insertion self }
     {
@@ -318,6 +330,7 @@ impl Bay {
     }
 
     // DEVSTSCHG is set, unless removal was allowed and is no wake event.
+    #[tactic(auto, unfolding(crate::specs::Lines::removal))]
     fn removal(mut self) -> Self
         ensures { result ≡ removal self }
     {
@@ -330,6 +343,7 @@ impl Bay {
     }
 
     // A new level of 1394 or USB; the other lines are as before.
+    #[tactic(auto, unfolding(crate::specs::Lines::presence_taken))]
     fn take_presence(mut self, lines: Lines) -> Self
         ensures { result ≡ presence_taken self lines }
     {
@@ -348,6 +362,7 @@ impl Bay {
         self
     }
 
+    #[tactic(auto, unfolding(crate::specs::Lines::take1394))]
     fn take_1394(self, level: bool) -> Self
         ensures { result ≡ take1394 self level }
     {
@@ -356,6 +371,7 @@ impl Bay {
         self.take_presence(lines)
     }
 
+    #[tactic(auto, unfolding(crate::specs::Lines::take_usb))]
     fn take_usb(self, level: bool) -> Self
         ensures { result ≡ take_usb self level }
     {
@@ -364,6 +380,7 @@ impl Bay {
         self.take_presence(lines)
     }
 
+    #[tactic(auto, unfolding(crate::specs::Lines::button_pressed))]
     fn button_pressed(mut self) -> Self
         ensures { result ≡ button_pressed self }
     {
@@ -375,6 +392,7 @@ impl Bay {
     }
 
     // The button acts when it is pressed, and only with a device.
+    #[tactic(auto, unfolding(crate::specs::Lines::take_button))]
     fn take_button(mut self, level: bool) -> Self
         ensures { result ≡ take_button self level }
     {
@@ -386,6 +404,7 @@ impl Bay {
         self
     }
 
+    #[tactic(auto, unfolding(crate::specs::Lines::take_security))]
     fn take_security(mut self, level: bool) -> Self
         ensures { result ≡ take_security self level }
     {
@@ -394,6 +413,7 @@ impl Bay {
     }
 
     // The lines are taken one after the other, and each finds what the ones before it did.
+    #[tactic(auto, unfolding(crate::specs::Lines::lines_event))]
     pub fn lines_event(self, operand: u32) -> Self
         ensures { result ≡ lines_event self operand }
     {

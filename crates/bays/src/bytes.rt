@@ -87,6 +87,7 @@ impl Bay {
         ]
     }
 
+    #[tactic(auto, unfolding(crate::specs::Saved::bay_from))]
     fn from_bytes(bytes: &[u8], at: usize) -> Self
         requires { at + bay_size ≤ length bytes.now }
         ensures { result ≡ bay_from bytes.now at }
@@ -115,6 +116,7 @@ impl Bay {
     }
 
     // Can these bytes be a bay? The flags must be 0 or 1.
+    #[tactic(auto, unfolding(crate::specs::Saved::bay_saved))]
     fn is_saved(bytes: &[u8], at: usize) -> bool
         requires { at + bay_size ≤ length bytes.now }
         ensures { result ≡ bay_saved bytes.now at }
@@ -151,6 +153,7 @@ impl Bays {
         bytes
     }
 
+    #[tactic(auto, unfolding(crate::specs::Saved::bays_from))]
     pub fn from_bytes(bytes: &[u8]) -> Self
         requires { length bytes.now ≡ bays_size }
         ensures { result ≡ bays_from bytes.now }

@@ -1,6 +1,8 @@
 // The device bays: two bays that take removable devices, after the controller of a data sheet. The block has identification registers, and
 // for each bay a control register (BCER) and a status register (BSTR). See docs/CHIP.md, "Bays". `device` calls it and knows its ports.
 // bay.rt has one bay, once.rt a field that is written once, registers.rt the registers, bytes.rt the saved form.
+#![tactic(auto)]
+
 pub mod bay;
 mod bytes;
 pub mod once;
@@ -119,6 +121,7 @@ impl Bays {
     }
 
     // Resets 0 (PCI) and 1 (VCC) keep the block. Reset 2 (VTR) keeps what is written once, and the lines.
+    #[tactic(auto, unfolding(crate::specs::Bays::bays_reset))]
     pub fn reset(mut self, level: u32) -> Self
         ensures { result ≡ bays_reset self level }
     {
@@ -134,6 +137,7 @@ impl Bays {
         }
     }
 
+    #[tactic(auto, unfolding(crate::specs::Bays::bays_in_range))]
     pub fn in_range(self) -> bool
         ensures { result ≡ bays_in_range self }
     {
@@ -141,6 +145,7 @@ impl Bays {
     }
 
     // Bay 0, or bay 1 for any other number.
+    #[tactic(auto, unfolding(crate::specs::Registers::bay_of))]
     fn bay(self, number: u32) -> Bay
         ensures { result ≡ bay_of self number }
     {
@@ -150,6 +155,7 @@ impl Bays {
         }
     }
 
+    #[tactic(auto, unfolding(crate::specs::Registers::with_bay))]
     fn with_bay(mut self, number: u32, bay: Bay) -> Self
         ensures { result ≡ with_bay self number bay }
     {
@@ -166,6 +172,7 @@ impl Bays {
     }
 
     // An access to the register at an offset, without the settling that follows.
+    #[tactic(auto, unfolding(crate::specs::Bays::bays_access, crate::specs::Bays::decoded_access))]
     pub fn access(self, offset: u32, access: Access) -> AccessResult
         ensures { with_block result.answer result.block ≡ bays_access self offset access }
     {
@@ -179,6 +186,7 @@ impl Bays {
     }
 
     // An event that sets the lines of one bay. Other events do not change the block.
+    #[tactic(auto, unfolding(crate::specs::Bays::bays_event))]
     pub fn event(self, kind: u32, operand: u32) -> Self
         ensures { result ≡ bays_event self kind operand }
     {
@@ -191,6 +199,7 @@ impl Bays {
     }
 
     // Is a sticky bit of a bay set and enabled?
+    #[tactic(auto, unfolding(crate::specs::Bays::alert))]
     pub fn alert(self) -> bool
         ensures { result ≡ alert self }
     {

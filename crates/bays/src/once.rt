@@ -21,6 +21,7 @@ impl Once {
         }
     }
 
+    #[tactic(auto, unfolding(crate::specs::Once::after_write))]
     pub fn write(self, value: u16) -> Self
         ensures { result ≡ after_write self value }
     {
@@ -34,6 +35,7 @@ impl Once {
     }
 
     // The status of a write to a register that is read-only after its first write.
+    #[tactic(auto, unfolding(crate::specs::Once::write_status))]
     pub fn write_status(self) -> u32
         ensures { result ≡ write_status self }
     {

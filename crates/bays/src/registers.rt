@@ -44,6 +44,7 @@ fn register_at(offset: u32) -> Decoded
 }
 
 // All registers take width 4 only, the two subsystem numbers too.
+#[tactic(auto, unfolding(crate::specs::Registers::decode))]
 pub(crate) fn decode(offset: u32, width: u32) -> Decoded
     ensures { result ≡ decode offset width }
 {
@@ -72,6 +73,7 @@ fn capabilities_from(value: u32) -> u16
 }
 
 impl Bays {
+    #[tactic(auto, unfolding(crate::specs::Registers::register_value))]
     pub(crate) fn register_value(self, register: Register) -> u32
         ensures { result ≡ register_value self register }
     {
@@ -93,6 +95,7 @@ impl Bays {
         }
     }
 
+    #[tactic(auto, unfolding(crate::specs::Registers::register_write))]
     pub(crate) fn register_write(mut self, register: Register, value: u32) -> AccessResult
         ensures { with_block result.answer result.block ≡ register_write self register value }
     {
