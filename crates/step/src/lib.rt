@@ -1,5 +1,7 @@
 // The state of the sequencer: the place of the next word and the loop counters. `word` has the faults of a word, `execute`
 // what a word does. `sequencer` runs the words. See docs/CHIP.md, "Runs" and "Valid and saved states".
+#![tactic(auto)]
+
 pub mod execute;
 pub mod word;
 
