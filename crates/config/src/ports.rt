@@ -18,6 +18,7 @@ use access::Answer;
 
 impl Config {
     // While locked, only 55h has an effect. While unlocked, 55h is an index like any other value.
+    #[tactic(auto, unfolding(crate::specs::Config::index_write))]
     pub fn index_write(mut self, value: u8) -> AccessResult
         ensures { with_block result.answer result.block ≡ index_write self value }
     {

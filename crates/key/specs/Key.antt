@@ -1,5 +1,5 @@
 -- The 32 key bytes, under the read-lock and the write-lock of key control. See docs/CHIP.md, "Key".
-use Rattle.std.specs.Prelude.{ℕ, ◌%◌, Bool, cond, eqb, ltb, get_or, set, replicate}
+use Rattle.std.specs.Prelude.{ℕ, ◌%◌, cond, ltb, get_or, set, replicate}
 use Rattle.access.specs.declared.Access.{Access}
 use Rattle.access.specs.declared.Answer.{Answer}
 use Rattle.access.specs.Block.{Result, with_block, status, takes_byte}

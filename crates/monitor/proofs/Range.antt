@@ -29,7 +29,6 @@ use Rattle.monitor.specs.Monitor.{
   monitor_reset,
   register,
   with_register,
-  with_sensors,
   write_as,
 }
 use Rattle.monitor.specs.Table.{

@@ -185,6 +185,7 @@ impl Monitor {
         }
     }
 
+    #[tactic(auto, using(crate::proofs::Table::slot_below), unfolding(crate::specs::Monitor::write_as))]
     fn data_write(self, value: u8) -> AccessResult
         ensures { with_block result.answer result.block ≡ data_write self value }
     {

@@ -1,5 +1,6 @@
 -- `config::Config::access` returns what `config_access` defines: it tests the width, then the port, then read or write.
-use borrow.Author.Tests.{ne_eqb, not-false, not-true}
+use Rattle.std.proofs.Common.{arith}
+use borrow.Author.Tests.{ne_eqb}
 use Rattle.config.specs.Config.{config_access}
 use Rattle.config.proofs.Config.access.Goals as goal
 
@@ -7,7 +8,7 @@ pub returns-then-not-takes_byte : goal.returns-then-not-takes_byte
 unfolding config_access
 returns-then-not-takes_byte c =
     let t = c.takes_byte in
-    rw (← t.ensures, not-true t.result c.if-not-takes_byte.true-raw) c.status.ensures
+    rw (← t.ensures, c.if-not-takes_byte.true) c.status.ensures
 
 pub returns-then-access : goal.returns-then-access
 unfolding config_access
@@ -15,7 +16,7 @@ returns-then-access c =
     let t = c.takes_byte in
     rw (
       ← t.ensures,
-      not-false t.result c.if-not-takes_byte.false-raw,
+      c.if-not-takes_byte.false,
       c.in-0.is,
       c.if-access.true,
     )
@@ -27,7 +28,7 @@ returns-else-access c =
     let t = c.takes_byte in
     rw (
       ← t.ensures,
-      not-false t.result c.if-not-takes_byte.false-raw,
+      c.if-not-takes_byte.false,
       c.in-0.is,
       c.if-access.false,
       c.index_read.ensures,
@@ -39,8 +40,8 @@ returns-then-access-2 c =
     let t = c.takes_byte in
     rw (
       ← t.ensures,
-      not-false t.result c.if-not-takes_byte.false-raw,
-      ne_eqb _ _ c.in_default.in_default-own.rest.1,
+      c.if-not-takes_byte.false,
+      ne_eqb c.args.offset 0 (omega arith),
       c.if-access-2.true,
     )
     c.data_write.ensures
@@ -51,8 +52,8 @@ returns-else-access-2 c =
     let t = c.takes_byte in
     rw (
       ← t.ensures,
-      not-false t.result c.if-not-takes_byte.false-raw,
-      ne_eqb _ _ c.in_default.in_default-own.rest.1,
+      c.if-not-takes_byte.false,
+      ne_eqb c.args.offset 0 (omega arith),
       c.if-access-2.false,
       c.data_read.ensures,
     )

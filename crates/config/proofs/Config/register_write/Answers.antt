@@ -1,6 +1,8 @@
 -- `config::Config::register_write` returns what `register_write` defines: one arm of the `match` for each register.
+use Rattle.std.proofs.Common.{arith}
 use borrow.Author.Tests.{ne_eqb}
 use Rattle.config.specs.Config.{register_write}
+use Rattle.config.specs.Index as register
 use Rattle.config.proofs.Config.register_write.Goals as goal
 
 pub returns-in-48 : goal.returns-in-48
@@ -30,13 +32,13 @@ returns-in-242 c = rw (c.control_write.ensures, c.in-242.is)
 pub returns-in_default : goal.returns-in_default
 unfolding register_write
 returns-in_default c =
-    let r = c.in_default.in_default-own.rest in
+    let index = c.args.self.index in
     rw (
       c.status-in_default.ensures,
-      ne_eqb _ _ r.0.0.0.0.0.1,
-      ne_eqb _ _ r.0.0.0.0.1,
-      ne_eqb _ _ r.0.0.0.1,
-      ne_eqb _ _ r.0.0.1,
-      ne_eqb _ _ r.0.1,
-      ne_eqb _ _ r.1,
+      ne_eqb index register.activate (omega arith),
+      ne_eqb index register.runtime_base_high (omega arith),
+      ne_eqb index register.runtime_base_low (omega arith),
+      ne_eqb index register.key_base_high (omega arith),
+      ne_eqb index register.key_base_low (omega arith),
+      ne_eqb index register.key_control (omega arith),
     )

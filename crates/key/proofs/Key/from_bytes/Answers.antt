@@ -1,9 +1,8 @@
 -- `key::Key::from_bytes` returns the 32 bytes: at turn k of the loop the first k of them are copied.
-use Prim.Native.Nat.{◌-◌}
-use mathlib.Core.Path.{◌≡◌, ap, refl}
-use lib.ListN.{length, length-set}
+use mathlib.Core.Path.{ap, refl}
+use lib.ListN.{length-set}
 use native.Mathlib.Omega.{arith}
-use Rattle.key.specs.Saved.{key_from, key_size}
+use Rattle.key.specs.Saved.{key_from}
 use Rattle.key.proofs.Copy.{all_copied, one_more}
 use Rattle.key.proofs.Key.from_bytes.Goals as goal
 
@@ -30,5 +29,4 @@ pub returns : goal.returns
 returns c =
     let l = c.loop-k in
     let bytes = c.args.bytes.now in
-    let end : l.k ≡ key_size = omega arith in
     ap key_from (all_copied l.key bytes l.k l.invariant.1.1 (omega arith) (omega arith))

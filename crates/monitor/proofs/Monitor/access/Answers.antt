@@ -1,5 +1,6 @@
 -- `monitor::Monitor::access` returns what `monitor_access` defines: it tests the width, and then the port.
-use borrow.Author.Tests.{ne_eqb, not-true, not-false}
+use Rattle.std.proofs.Common.{arith}
+use borrow.Author.Tests.{ne_eqb}
 use Rattle.monitor.specs.Monitor.{monitor_access}
 use Rattle.monitor.proofs.Monitor.access.Goals as goal
 
@@ -8,7 +9,7 @@ unfolding monitor_access
 returns-then-not-takes_byte c =
     rw (
       ← c.takes_byte.ensures,
-      not-true c.takes_byte.result c.if-not-takes_byte.true-raw,
+      c.if-not-takes_byte.true,
     )
     c.status.ensures
 
@@ -17,7 +18,7 @@ unfolding monitor_access
 returns-in-0 c =
     rw (
       ← c.takes_byte.ensures,
-      not-false c.takes_byte.result c.if-not-takes_byte.false-raw,
+      c.if-not-takes_byte.false,
       c.in-0.is,
     )
     c.index_access.ensures
@@ -27,7 +28,7 @@ unfolding monitor_access
 returns-in_default c =
     rw (
       ← c.takes_byte.ensures,
-      not-false c.takes_byte.result c.if-not-takes_byte.false-raw,
-      ne_eqb _ _ c.in_default.in_default-own.rest.1,
+      c.if-not-takes_byte.false,
+      ne_eqb c.args.offset 0 (omega arith),
     )
     c.data_access.ensures

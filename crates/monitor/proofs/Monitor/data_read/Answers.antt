@@ -3,6 +3,7 @@ use borrow.Author.Tests.{ne_eqb}
 use native.Mathlib.Omega.{arith}
 use Rattle.monitor.proofs.Table.{slot_below}
 use Rattle.monitor.specs.Monitor.{data_read}
+use Rattle.monitor.specs.Table.{absent, read_only}
 use Rattle.monitor.proofs.Monitor.data_read.Goals as goal
 
 pub register-requires : goal.register-requires
@@ -25,10 +26,11 @@ returns-in-1 c =
 pub returns-in_default : goal.returns-in_default
 unfolding data_read
 returns-in_default c =
+    let kind = c.kind_of.result in
     simp (
       ← c.kind_of.ensures,
-      ne_eqb _ _ c.in_default.in_default-own.rest.0.1,
-      ne_eqb _ _ c.in_default.in_default-own.rest.1,
+      ne_eqb kind absent (omega arith),
+      ne_eqb kind read_only (omega arith),
       ← c.register.ensures,
     )
     c.read-in_default.ensures

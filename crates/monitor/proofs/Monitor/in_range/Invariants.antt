@@ -1,5 +1,5 @@
 -- At turn k of the loop `within` says of the first k registers that they are within their masks.
-use Rattle.std.proofs.Common.{ℕ, ◌≡◌, ◌≤◌, ◌-◌, List, get_or}
+use Rattle.std.proofs.Common.{ℕ, ◌≡◌, List, get_or}
 use Rattle.std.specs.Prelude.{Bool}
 use Rattle.mask.specs.Every.{all_below}
 use Rattle.mask.specs.Mask.{within}
