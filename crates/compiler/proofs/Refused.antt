@@ -15,8 +15,8 @@ use Rattle.script.proofs.Faults.{FirstFault, closed, fault_bounded, first_or_non
 use Rattle.script.proofs.Grammar.{records_length}
 use Rattle.script.specs.Faults.{FirstFaultAt, GoodLength, NoFault, open_at_end}
 use Rattle.script.specs.Records.{record_count, records_of}
-use Rattle.script.specs.Refusals.{bad_length, first_fault, innermost, script_refusal, too_many_words, words_in}
-use Rattle.compiler.specs.Compile.{compile_refusal, compile_result, too_short}
+use Rattle.script.specs.Refusals.{bad_length, first_fault, innermost, script_refusal, words_in}
+use Rattle.compiler.specs.Compile.{compile_refusal, compile_result}
 use Rattle.compiler.specs.Refused.{Closed, Gives, RefusedExactly}
 
 -- ---- the cases

@@ -1,6 +1,8 @@
 // A second engine: `interpret` runs a script by walking through its nested records, without an image. Its answer is that of compiling the
 // script and running the image (`correct`, specs/InterpreterCorrect.antt). The programs `interpret` and `replay` and the library `runnelopal`
 // call it. `walk` has the walk, `partners` the table of the ends and elses. See docs/CHIP.md, "Interpreting a script" and "Refusals".
+#![tactic(auto)]
+
 mod partners;
 mod walk;
 

@@ -1,5 +1,7 @@
 // The sequencer: `run` runs an image on a device until it halts, faults or has spent its budget. `trace`, `runnelopal` and
 // `replay` call it. What one word does is in `step`. See docs/CHIP.md, "Runs", "Resuming a run" and "Refusals".
+#![tactic(auto)]
+
 ghost use Rattle.std.specs.Prelude.{◌≡◌, true, ◌+◌, ◌<◌, ◌≤◌, length};
 ghost use Rattle.step.specs.Sequencer.{sequencer_in_range, counters_of, counter_array};
 ghost use Rattle.sequencer.specs.Run.{

@@ -1,6 +1,5 @@
 -- `emit` writes the words of the script to the front of the image. The loop invariant `Emitting`: before each record, the
 -- words so far are written, and the rest of the script gives the words that are missing.
-use Prim.Native.Nat.{◌-◌}
 use mathlib.Core.Path.{refl, sym, ◌∙◌}
 use native.Mathlib.Omega.{arith}
 use Rattle.compiler.proofs.Emitting.{begins, completes, goes_on, has_room, passes}

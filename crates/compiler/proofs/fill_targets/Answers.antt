@@ -1,8 +1,6 @@
 -- `fill_targets` finds the target of every record. Each kind of record keeps the loop invariant `Filling`. After the last
 -- record no block is open, so no target is missing.
-use Prim.Native.Nat.{◌-◌, ◌<◌}
 use mathlib.Core.Path.{refl}
-use lib.ListN.{get_or}
 use native.Mathlib.Omega.{arith}
 use Rattle.compiler.proofs.Filling.{begins, elsed, ended, filled, in_block, opened, passed, room, turn, waits_before}
 use Rattle.compiler.proofs.fill_targets.Goals as goal

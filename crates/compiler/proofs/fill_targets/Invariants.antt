@@ -1,8 +1,7 @@
 -- `fill_targets` finds the target of every record. Each kind of record keeps the loop invariant `Filling`. After the last
 -- record no block is open, so no target is missing.
-use Prim.Native.Nat.{◌-◌, ◌<◌}
-use lib.ListN.{get_or}
-use Rattle.compiler.proofs.Filling.{Filling, in_block, room, Turn, waits_before}
+use Prim.Native.Nat.{◌-◌}
+use Rattle.compiler.proofs.Filling.{Filling}
 use Rattle.compiler.proofs.fill_targets.Given as goal
 
 abbrev pub invariant-loop-k : goal.invariant-loop-k

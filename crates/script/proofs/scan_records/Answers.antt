@@ -19,22 +19,16 @@ use Rattle.script.proofs.scan_records.Goals.{else-scan-test, then-scan-test+then
 pub scan-init : goal.scan-init
 scan-init c = starts _ _ _ refl
 
-pub overflow_mul-k : goal.overflow_mul-k
-overflow_mul-k c = omega arith
-
-pub read-r-requires : goal.read-r-requires
-read-r-requires c = omega arith
-
 pub place_fault-number-requires : goal.place_fault-number-requires
 place_fault-number-requires c = c.scan.invariant.kept.deep
 
 pub loop-b-init : goal.loop-b-init
 loop-b-init c =
     let clear : c.if-kind-gt-DELAY.number ≡ 0 =
-        elim c.if-kind-gt-DELAY.branch [
-          then-kind-gt-DELAY+else-number-ne0-2 w ↦ w.number-is ∙ w.if-number-ne0-2.false
-        | else-kind-gt-DELAY w ↦ w.number-is ∙ c.if-number-ne0.false
-        ] in
+    elim c.if-kind-gt-DELAY.branch [
+      | then-kind-gt-DELAY+else-number-ne0-2 w ↦ w.number-is ∙ w.if-number-ne0-2.false
+      | else-kind-gt-DELAY w ↦ w.number-is ∙ c.if-number-ne0.false
+    ] in
     (omega arith, refl, omega arith, clear)
 
 pub bounds-blocks-b : goal.bounds-blocks-b
@@ -51,12 +45,6 @@ pub overflow_add-repeats : goal.overflow_add-repeats
 overflow_add-repeats c =
     let s = c.scan in
     omega (arith, c.is_repeat-repeats.ensures, at_most_one (eqb (get_or s.blocks c.loop-b.b 0) 4))
-
-pub overflow_add-b : goal.overflow_add-b
-overflow_add-b c = omega arith
-
-pub loop-b-smaller : goal.loop-b-smaller
-loop-b-smaller c = omega arith
 
 pub loop-b-preserved : goal.loop-b-preserved
 loop-b-preserved c =
@@ -90,16 +78,10 @@ update_blocks-depth-requires c =
       open_array = c.scan.invariant.kept;
       kind_value =
           elim c.if-kind-gt-DELAY.branch [
-            then-kind-gt-DELAY+else-number-ne0-2 w ↦ sym w.place_fault-number.ensures ∙ w.if-number-ne0-2.false
-          | else-kind-gt-DELAY w ↦ anywhere _ _ w.if-kind-gt-DELAY.false
+            | then-kind-gt-DELAY+else-number-ne0-2 w ↦ sym w.place_fault-number.ensures ∙ w.if-number-ne0-2.false
+            | else-kind-gt-DELAY w ↦ anywhere _ _ w.if-kind-gt-DELAY.false
           ];
     }
-
-pub overflow_add-k : goal.overflow_add-k
-overflow_add-k c = omega arith
-
-pub scan-smaller : goal.scan-smaller
-scan-smaller c = omega arith
 
 pub scan-preserved : goal.scan-preserved
 scan-preserved c =
@@ -108,16 +90,16 @@ scan-preserved c =
     let l = c.loop-b in
     let w = c.blocks_to_search-searched in
     let placed : place_fault (stack_of s.depth s.blocks) r.kind ≡ 0 =
-        elim c.if-kind-gt-DELAY.branch [
-          then-kind-gt-DELAY+else-number-ne0-2 v ↦ sym v.place_fault-number.ensures ∙ v.if-number-ne0-2.false
-        | else-kind-gt-DELAY v ↦ anywhere _ _ v.if-kind-gt-DELAY.false
-        ] in
+    elim c.if-kind-gt-DELAY.branch [
+      | then-kind-gt-DELAY+else-number-ne0-2 v ↦ sym v.place_fault-number.ensures ∙ v.if-number-ne0-2.false
+      | else-kind-gt-DELAY v ↦ anywhere _ _ v.if-kind-gt-DELAY.false
+    ] in
     let e : l.b ≡ w.result = omega arith in
     let few : repeats_in (stack_of (cond (eqb r.kind 4) s.depth 0) s.blocks) < 8 =
-        rw w.ensures at (rw e at (rw l.invariant.1 at l.invariant.2)) in
+    rw w.ensures at (rw e at (rw l.invariant.1 at l.invariant.2)) in
     -- a record that also passes the count of repeats has no fault
     let sound : record_fault (stack_of s.depth s.blocks) r ≡ 0 =
-        good s.blocks s.depth r (sym c.shape_fault-number.ensures ∙ c.if-number-ne0.false) placed few in
+    good s.blocks s.depth r (sym c.shape_fault-number.ensures ∙ c.if-number-ne0.false) placed few in
     rw c.emits_word-words.ensures
     (further _ _ s.blocks s.depth _ _ _ s.invariant r c.update_blocks-depth.new.blocks c.update_blocks-depth.result _
     c.scan-test.true c.read-r.ensures c.update_blocks-depth.ensures.0 l.invariant.3 sound c.update_blocks-depth.ensures.1)
@@ -131,34 +113,34 @@ returns-then-number-ne0-3 c =
     let g = s.invariant in
     -- the scan has ended at a fault
     let fault : first_fault [] 0 (records_from c.args.count 0 c.args.script.now) ≡ refusal c.scan-test.number s.k =
-        elim c.scan-test.branch [
-          else-scan-test w ↦ absurd (c.if-number-ne0-3.true (w.number-is ∙ g.clear))
-        | then-scan-test+then-number-ne0 w ↦
+    elim c.scan-test.branch [
+      | else-scan-test w ↦ absurd (c.if-number-ne0-3.true (w.number-is ∙ g.clear))
+      | then-scan-test+then-number-ne0 w ↦
           let r = w.read-r.result in
           let n = w.shape_fault-number.result in
           rw w.number-is
           (faulty _ _ _ _ _ _ _ g r n w.scan-test.true w.read-r.ensures
           (shape_first _ r n w.shape_fault-number.ensures w.if-number-ne0.true) w.if-number-ne0.true)
-        | then-scan-test+else-number-ne0+then-kind-gt-DELAY+then-number-ne0-2 w ↦
+      | then-scan-test+else-number-ne0+then-kind-gt-DELAY+then-number-ne0-2 w ↦
           let r = w.read-r.result in
           let n = w.place_fault-number.result in
           let e = sym w.shape_fault-number.ensures ∙ w.if-number-ne0.false in
           rw w.number-is
           (faulty _ _ _ _ _ _ _ g r n w.scan-test.true w.read-r.ensures
           (place_next _ r n e w.place_fault-number.ensures w.if-number-ne0-2.true) w.if-number-ne0-2.true)
-        | then-scan-test+else-number-ne0+then-loop-b-test+then-repeats-eq-MOST_REPEATS w ↦
+      | then-scan-test+else-number-ne0+then-loop-b-test+then-repeats-eq-MOST_REPEATS w ↦
           let r = w.read-r.result in
           let e = sym w.shape_fault-number.ensures ∙ w.if-number-ne0.false in
           let b = w.loop-b.b in
           let within = w.blocks_to_search-searched.ensures in
           let four = searched_if_repeat r.kind s.depth b (rw within at w.loop-b-test.true) in
           let eight : repeats_in (stack_of (b + 1) s.blocks) ≡ 8 =
-              repeats_more b s.blocks ∙ (rw (← w.loop-b.invariant.1, ← w.is_repeat-repeats.ensures) w.if-repeats-eq-MOST_REPEATS.true) in
+          repeats_more b s.blocks ∙ (rw (← w.loop-b.invariant.1, ← w.is_repeat-repeats.ensures) w.if-repeats-eq-MOST_REPEATS.true) in
           let l : b + 1 ≤ s.depth = omega (arith, w.loop-b-test.true, within, search_within (eqb r.kind 4) s.depth) in
           rw w.number-is
           (faulty _ _ _ _ _ _ _ g r 6 w.scan-test.true w.read-r.ensures
           (ninth_repeat s.blocks s.depth (b + 1) r e four l eight) (λ q. omega arith))
-        ] in
+    ] in
     c.refusal_at.ensures ∙ scan_faulted _ _ _ _ c.requires.1 fault c.if-number-ne0-3.true
 
 pub innermost-requires : goal.innermost-requires
@@ -172,13 +154,13 @@ pub returns-then-innermost-ne0 : goal.returns-then-innermost-ne0
 returns-then-innermost-ne0 c =
     -- the scan has ended after the last record: at a fault, the number would not be 0
     let done : c.args.count ≤ c.scan.k =
-        elim c.scan-test.branch [
-          else-scan-test w ↦ w.scan-test.false
-        | then-scan-test+then-number-ne0 w ↦ absurd (w.if-number-ne0.true (sym w.number-is ∙ c.if-number-ne0-3.false))
-        | then-scan-test+else-number-ne0+then-kind-gt-DELAY+then-number-ne0-2 w ↦
+    elim c.scan-test.branch [
+      | else-scan-test w ↦ w.scan-test.false
+      | then-scan-test+then-number-ne0 w ↦ absurd (w.if-number-ne0.true (sym w.number-is ∙ c.if-number-ne0-3.false))
+      | then-scan-test+else-number-ne0+then-kind-gt-DELAY+then-number-ne0-2 w ↦
           absurd (w.if-number-ne0-2.true (sym w.number-is ∙ c.if-number-ne0-3.false))
-        | then-scan-test+else-number-ne0+then-loop-b-test+then-repeats-eq-MOST_REPEATS w ↦ omega (arith, w.number-is, c.if-number-ne0-3.false)
-        ] in
+      | then-scan-test+else-number-ne0+then-loop-b-test+then-repeats-eq-MOST_REPEATS w ↦ omega (arith, w.number-is, c.if-number-ne0-3.false)
+    ] in
     c.refusal_at-then-innermost-ne0.ensures
     ∙ scan_unended _ _ _ _ _ _ _ c.scan.invariant done c.requires.1 (λ q. c.if-innermost-ne0.true (c.innermost.ensures ∙ q))
 
@@ -186,11 +168,11 @@ pub returns : goal.returns
 returns c =
     -- the scan has ended after the last record: at a fault, the number would not be 0
     let done : c.args.count ≤ c.scan.k =
-        elim c.scan-test.branch [
-          else-scan-test w ↦ w.scan-test.false
-        | then-scan-test+then-number-ne0 w ↦ absurd (w.if-number-ne0.true (sym w.number-is ∙ c.if-number-ne0-3.false))
-        | then-scan-test+else-number-ne0+then-kind-gt-DELAY+then-number-ne0-2 w ↦
+    elim c.scan-test.branch [
+      | else-scan-test w ↦ w.scan-test.false
+      | then-scan-test+then-number-ne0 w ↦ absurd (w.if-number-ne0.true (sym w.number-is ∙ c.if-number-ne0-3.false))
+      | then-scan-test+else-number-ne0+then-kind-gt-DELAY+then-number-ne0-2 w ↦
           absurd (w.if-number-ne0-2.true (sym w.number-is ∙ c.if-number-ne0-3.false))
-        | then-scan-test+else-number-ne0+then-loop-b-test+then-repeats-eq-MOST_REPEATS w ↦ omega (arith, w.number-is, c.if-number-ne0-3.false)
-        ] in
+      | then-scan-test+else-number-ne0+then-loop-b-test+then-repeats-eq-MOST_REPEATS w ↦ omega (arith, w.number-is, c.if-number-ne0-3.false)
+    ] in
     scan_done _ _ _ _ _ _ _ c.scan.invariant done c.requires.1 (sym c.innermost.ensures ∙ c.if-innermost-ne0.false)

@@ -33,8 +33,8 @@ pub returns-then-kind-eq-ELSE : goal.returns-then-kind-eq-ELSE
 returns-then-kind-eq-ELSE c =
     let k = c.requires.open_array in
     let within =
-        inside c.args.blocks.now _ 6 refl
-        (rw c.if-kind-eq-ELSE.true at (placed c.args.blocks.now c.args.depth c.args.kind c.requires.kind_value).0) in (
+    inside c.args.blocks.now _ 6 refl
+    (rw c.if-kind-eq-ELSE.true at (placed c.args.blocks.now c.args.depth c.args.kind c.requires.kind_value).0) in (
       record { deep = k.deep; sized = simp length-set k.sized },
       rw c.if-kind-eq-ELSE.true (elses c.args.blocks.now c.args.depth 6 within (omega (arith, k.deep, k.sized))),
     )
@@ -49,9 +49,9 @@ returns-then-kind-eq-END c =
     let k = c.requires.open_array in (
       record { deep = omega (arith, k.deep); sized = k.sized },
       rw c.if-kind-eq-END.true
-      (ends c.args.blocks.now c.args.depth
-      (inside c.args.blocks.now _ 7 refl
-      (rw c.if-kind-eq-END.true at (placed c.args.blocks.now c.args.depth c.args.kind c.requires.kind_value).0))),
+          (ends c.args.blocks.now c.args.depth
+          (inside c.args.blocks.now _ 7 refl
+          (rw c.if-kind-eq-END.true at (placed c.args.blocks.now c.args.depth c.args.kind c.requires.kind_value).0))),
     )
 
 pub returns : goal.returns

@@ -2,10 +2,9 @@
 use native.Mathlib.Omega.{arith}
 use Rattle.step.proofs.CounterArray.{used_few, used_length}
 use mathlib.Core.Path.{refl}
-use Rattle.sequencer.proofs.start.Statement.{statement}
-use Rattle.sequencer.proofs.start.Tie as tie
+use Rattle.sequencer.proofs.start.Goals as goal
 
-returns : tie.Need-returns
+pub returns : goal.returns
 returns c = λ d events lent.
     let s = c.args.sequencer in
     let h = c.requires in
@@ -20,6 +19,3 @@ returns c = λ d events lent.
       logged = refl;
       lines = refl;
     }
-
-pub start_spec : {M : Type 1} → statement M
-start_spec = tie.close (tie.spec returns)
