@@ -1,4 +1,6 @@
 // Saves the state of the sequencer as 40 bytes, and loads it again. `runnelopal` and `replay` use it. See docs/STATE.md, "A saved sequencer".
+#![tactic(auto)]
+
 ghost use Rattle.std.specs.Prelude.{◌≡◌, length};
 ghost use Rattle.sequencer_state.specs.State.{
   sequencer_size,
@@ -126,6 +128,7 @@ fn counters_from(bytes: &[u8]) -> [u32; COUNTERS]
     ]
 }
 
+#[tactic(auto, unfolding(crate::specs::State::sequencer_from))]
 fn read_from(bytes: &[u8]) -> Sequencer
     requires { length bytes.now ≡ sequencer_size }
     ensures { result ≡ sequencer_from bytes.now }

@@ -4,9 +4,7 @@ use Rattle.step.specs.Sequencer.{counter_in_range, sequencer_in_range}
 use Rattle.mask.proofs.Every.{all_false, all_more}
 use native.Mathlib.Omega.{arith}
 use lib.ListN.{get_or}
-use mathlib.Core.Bool.{true}
 use mathlib.Core.Path.{◌≡◌, refl, sym, ◌∙◌}
-use Prim.Native.Nat.{◌-◌}
 use Rattle.step.proofs.Sequencer.in_range.Goals as goal
 
 pub returns-then-used-gt-COUNTERS : goal.returns-then-used-gt-COUNTERS
