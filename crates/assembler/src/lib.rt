@@ -1,6 +1,8 @@
 // The assembler: reads a text script, writes its records to the front of the record buffer, and returns their number or a refusal.
 // `runnelopal`, `replay` and the program `assemble` call `assemble`. It relies on `statement::read` for each line.
 // See docs/TEXT.md, "Reading: refusals".
+#![tactic(auto)]
+
 ghost use Rattle.std.specs.Prelude.{◌≡◌, ◌++◌, suc, ◌+◌, ◌^◌, ◌≤◌, ◌<◌, length, take, drop};
 ghost use Rattle.statement.specs.Line.{run};
 ghost use Rattle.assembler.specs.Assemble.{LineAt, LinesRead, assemble_result, before_comment, not_line_feed, put_statements, records_after};

@@ -1,5 +1,7 @@
 // The lister: writes the listing of a script, a text script with one line for each record, to the front of the text buffer, and returns its
 // length or a refusal. `list` is the only public call; `runnelopal`, `replay` and the program `list` use it. See docs/TEXT.md, "Listing".
+#![tactic(auto)]
+
 ghost use Rattle.std.specs.Prelude.{◌≡◌, [], ◌∷◌, ◌++◌, ◌≤◌, length, replicate};
 ghost use Rattle.digits.specs.Text.{decimal_text, line_at, puts};
 ghost use Rattle.record.specs.Record.{most_records};

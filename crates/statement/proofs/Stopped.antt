@@ -1,5 +1,5 @@
 -- Numbers that stop at 2^32: the value of digits may stop at any digit, and the fields of a record fit exactly if the stopped numbers do.
-use Prim.Native.Nat.{ℕ, suc, ◌+◌, ◌*◌, ◌≤◌, ◌<◌}
+use Prim.Native.Nat.{ℕ, zero, suc, ◌+◌, ◌*◌, ◌≤◌, ◌<◌}
 use mathlib.Core.Path.{◌≡◌, ap, refl, sym, ◌∙◌}
 use mathlib.Core.Logic.{◌⊎◌, inl, inr}
 use mathlib.Core.Bool.{Bool, true, false, cond, ◌&&◌}
@@ -47,6 +47,7 @@ module _ (n : ℕ) where
 
 -- one more digit: what was too big stays too big
 stop_step : (base digit m n : ℕ) → 0 < base → capped m ≡ capped n → capped (m * base + digit) ≡ capped (n * base + digit)
+stop_step zero digit m n h e = elim h [ ]
 stop_step (suc base) digit m n h e = pick (capped_cases m) (capped_cases n)
   where
     grows : (k : ℕ) → too_big ≤ k → capped (k * suc base + digit) ≡ too_big

@@ -1,5 +1,7 @@
 // Reads one line of a text script: the record that it means, or refusal 30, 31 or 32. `assembler` calls `read` for every line. See docs/TEXT.md.
 // specs/Grammar.antt has the grammar, specs/Line.antt what these functions return.
+#![tactic(auto)]
+
 ghost use Rattle.std.specs.Prelude.{◌≡◌, true, cond, ◌+◌, ◌≤◌, ◌<◌, length, drop};
 ghost use Rattle.digits.specs.Read.{digit_of};
 ghost use Rattle.script.specs.Nested.{script_record};
