@@ -1,4 +1,6 @@
 // Saves a device as 106 bytes, block after block, and loads it again. `runnelopal` and `replay` use it. See docs/STATE.md.
+#![tactic(auto)]
+
 pub mod call;
 
 ghost use Rattle.std.specs.Prelude.{◌≡◌, length};
