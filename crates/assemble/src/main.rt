@@ -1,9 +1,12 @@
 // The program `assemble` reads the text script on standard input and writes its records to standard output. If the text is refused, it writes
-// nothing there. Standard error then has the refusal, and after it the bad line, if a line is bad. See docs/TEXT.md, "Reading: refusals".
+// nothing there. Standard error then has the refusal, and after it the bad line, if a line is bad. See docs/TEXT.md, "Reading: refusals". A read or
+// a write that the system refuses ends it with that error.
+#![tactic(auto)]
+
 ghost use Rattle.assemble.specs.Output.{Answered};
 
-use libc::{STDERR_FILENO, STDIN_FILENO, STDOUT_FILENO};
 use record::Record;
+use std::io;
 
 // A longer text is not assembled.
 const MOST_TEXT: usize = 262_144;
@@ -34,19 +37,19 @@ fn put_records(text: &[u8], records: &mut [u8]) -> Answer
     }
 }
 
-fn print_refusal(number: u32, place: u32) {
+fn print_refusal(errors: &impl Print, number: u32, place: u32) -> io::Result<()> {
     let mut line = [0u8; refusal_text::LINE_SIZE];
     let end = refusal_text::put_whole(&mut line, number, place);
-    io::write_all(STDERR_FILENO, &line[..end]);
+    errors.write_all(&line[..end])
 }
 
 // Prints the line as it is in the text, and a line feed.
-fn print_line(text: &[u8], place: usize) {
+fn print_line(errors: &impl Print, text: &[u8], place: usize) -> io::Result<()> {
     let span = assembler::find_line(text, place);
     let from = span.from;
     let to = span.to;
-    io::write_all(STDERR_FILENO, &text[from..to]);
-    io::write_all(STDERR_FILENO, b"\n");
+    errors.write_all(&text[from..to])?;
+    errors.write_all(b"\n")
 }
 
 // The number of a line. A text has fewer than 2^32 lines.
@@ -54,33 +57,30 @@ fn short(place: usize) -> u32 {
     (place % 0x1_0000_0000) as u32
 }
 
-fn refuse(text: &[u8], refusal: u32, place: usize) {
-    print_refusal(refusal, short(place));
+fn refuse(errors: &impl Print, text: &[u8], refusal: u32, place: usize) -> io::Result<()> {
+    print_refusal(errors, refusal, short(place))?;
     if refusal != outcome::RECORDS_TOO_SHORT {
-        print_line(text, place);
+        print_line(errors, text, place)?;
     }
+    Ok(())
 }
 
-fn assemble(text: &[u8]) {
+fn assemble(output: &impl Print, errors: &impl Print, text: &[u8]) -> io::Result<()> {
     let mut records = [0u8; RECORDS_SIZE];
     let r = put_records(text, &mut records);
     if r.refusal != 0 {
-        refuse(text, r.refusal, r.place);
-        return;
+        return refuse(errors, text, r.refusal, r.place);
     }
     let length = r.length;
-    io::write_all(STDOUT_FILENO, &records[..length]);
+    output.write_all(&records[..length])
 }
 
-fn main() {
+fn main(rt: HostRuntime) -> io::Result<()> {
+    let errors = rt.stderr();
     let mut text = [0u8; TEXT_SIZE];
-    let count = io::read_full(STDIN_FILENO, &mut text);
+    let count = input::read_full(&mut rt.stdin(), &mut text)?;
     if MOST_TEXT < count {
-        io::write_all(
-            STDERR_FILENO,
-            b"assemble: the text has more than 262144 bytes\n",
-        );
-        return;
+        return errors.write_all(b"assemble: the text has more than 262144 bytes\n");
     }
-    assemble(&text[..count]);
+    assemble(&rt, &errors, &text[..count])
 }

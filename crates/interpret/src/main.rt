@@ -1,24 +1,32 @@
 // The program `interpret` runs the script on standard input on the fresh device, without compiling it. It prints the values that are logged,
-// each with the owner of its port, and the ending, or the refusal: what `trace` prints. See docs/CHIP.md, "Runs".
+// each with the owner of its port, and the ending, or the refusal: what `trace` prints. See docs/CHIP.md, "Runs". A read or a write that the
+// system refuses ends it with that error.
+#![tactic(auto)]
+
 use device::Device;
-use libc::{STDIN_FILENO, STDOUT_FILENO};
+use std::io;
 use trace_text::Summary;
 
-fn write(text: &[u8], end: usize) {
+fn write(output: &impl Print, text: &[u8], end: usize) -> io::Result<()> {
     if end <= text.len() {
-        io::write_all(STDOUT_FILENO, &text[..end]);
+        output.write_all(&text[..end])?;
     }
+    Ok(())
 }
 
 // The whole text is put into a buffer and written at once.
-fn print(summary: Summary, log: &[u64; trace_text::LOG_SIZE]) {
+fn print(
+    output: &impl Print,
+    summary: Summary,
+    log: &[u64; trace_text::LOG_SIZE],
+) -> io::Result<()> {
     let mut text = [0u8; trace_text::TEXT_SIZE];
     let end = trace_text::put_whole(&mut text, summary, log);
-    write(&text, end);
+    write(output, &text, end)
 }
 
 // There are no events.
-fn interpret(script: &[u8]) {
+fn interpret(output: &impl Print, script: &[u8]) -> io::Result<()> {
     let mut log = [0u64; trace_text::LOG_SIZE];
     let events = [0u32; 0];
     let device = Device::fresh();
@@ -29,12 +37,12 @@ fn interpret(script: &[u8]) {
         steps: result.steps,
         logged: result.logged,
     };
-    print(summary, &log);
+    print(output, summary, &log)
 }
 
 // Longer input than the buffer is cut off there, and is still refused with 1.
-fn main() {
+fn main(rt: HostRuntime) -> io::Result<()> {
     let mut script = [0u8; trace_text::SCRIPT_SIZE];
-    let count = io::read_full(STDIN_FILENO, &mut script);
-    interpret(&script[..count]);
+    let count = input::read_full(&mut rt.stdin(), &mut script)?;
+    interpret(&rt, &script[..count])
 }

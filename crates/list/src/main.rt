@@ -1,10 +1,13 @@
 // The program `list` reads the script on standard input and writes its listing, a text script, to standard output. If the script is refused, it
-// writes nothing there, and the refusal to standard error. See docs/TEXT.md, "Listing".
+// writes nothing there, and the refusal to standard error. See docs/TEXT.md, "Listing". A read or a write that the system refuses ends it with that
+// error.
+#![tactic(auto)]
+
 ghost use Rattle.list.specs.Output.{Answered};
 
-use libc::{STDERR_FILENO, STDIN_FILENO, STDOUT_FILENO};
 use lister::ListResult;
 use record::Record;
+use std::io;
 
 // One record more than a script may have.
 const SCRIPT_SIZE: usize = Record::SIZE * 1025;
@@ -19,26 +22,25 @@ fn put_listing(script: &[u8], text: &mut [u8; TEXT_SIZE]) -> ListResult
     lister::list(script, text)
 }
 
-fn print_refusal(number: u32, place: u32) {
+fn print_refusal(errors: &impl Print, number: u32, place: u32) -> io::Result<()> {
     let mut line = [0u8; refusal_text::LINE_SIZE];
     let end = refusal_text::put_whole(&mut line, number, place);
-    io::write_all(STDERR_FILENO, &line[..end]);
+    errors.write_all(&line[..end])
 }
 
-fn list(script: &[u8]) {
+fn list(output: &impl Print, errors: &impl Print, script: &[u8]) -> io::Result<()> {
     let mut text = [0u8; TEXT_SIZE];
     let r = put_listing(script, &mut text);
     if r.refusal != 0 {
-        print_refusal(r.refusal, r.place);
-        return;
+        return print_refusal(errors, r.refusal, r.place);
     }
     let length = r.length;
-    io::write_all(STDOUT_FILENO, &text[..length]);
+    output.write_all(&text[..length])
 }
 
 // Longer input than the buffer is cut off there, and is still refused with 1.
-fn main() {
+fn main(rt: HostRuntime) -> io::Result<()> {
     let mut script = [0u8; SCRIPT_SIZE];
-    let count = io::read_full(STDIN_FILENO, &mut script);
-    list(&script[..count]);
+    let count = input::read_full(&mut rt.stdin(), &mut script)?;
+    list(&rt, &rt.stderr(), &script[..count])
 }

@@ -1,23 +1,25 @@
-// The lines that `replay` prints. Each line is put into a buffer and written at once. See docs/CASES.md, "Commands".
+// The lines that `replay` prints. Each line is put into a buffer and written at once, and a write that the
+// system refuses is an error that ends the program. See docs/CASES.md, "Commands".
 use crate::scripts;
 use crate::scripts::Reply;
 use crate::session::Session;
 use device::single::AccessReply;
 use device::{Device, Outputs};
 use interpreter::InterpretResult;
-use libc::STDOUT_FILENO;
 use sequencer::RunResult;
+use std::io;
 use step::{COUNTERS, Sequencer};
 
-fn write(line: &[u8], end: usize) {
+fn write(rt: &impl Print, line: &[u8], end: usize) -> io::Result<()> {
     if end <= line.len() {
-        io::write_all(STDOUT_FILENO, &line[..end]);
+        rt.write_all(&line[..end])?;
     }
+    Ok(())
 }
 
-fn print(line: &mut [u8], at: usize) {
+fn print(rt: &impl Print, line: &mut [u8], at: usize) -> io::Result<()> {
     let end = digits::put(line, at, b'\n');
-    write(line, end);
+    write(rt, line, end)
 }
 
 fn put_flag(line: &mut [u8], at: usize, on: bool) -> usize {
@@ -33,30 +35,30 @@ fn put_outputs(line: &mut [u8], at: usize, outputs: Outputs) -> usize {
     put_flag(line, b, outputs.monitor)
 }
 
-pub fn unread() {
-    io::write_all(STDOUT_FILENO, b"UNREAD\n");
+pub fn unread(rt: &impl Print) -> io::Result<()> {
+    rt.write_all(b"UNREAD\n")
 }
 
-pub fn fresh() {
-    io::write_all(STDOUT_FILENO, b"FRESH\n");
+pub fn fresh(rt: &impl Print) -> io::Result<()> {
+    rt.write_all(b"FRESH\n")
 }
 
-pub fn loaded() {
-    io::write_all(STDOUT_FILENO, b"LOADED\n");
+pub fn loaded(rt: &impl Print) -> io::Result<()> {
+    rt.write_all(b"LOADED\n")
 }
 
-pub fn set() {
-    io::write_all(STDOUT_FILENO, b"SET\n");
+pub fn set(rt: &impl Print) -> io::Result<()> {
+    rt.write_all(b"SET\n")
 }
 
-pub fn refused(number: u32, place: u32) {
+pub fn refused(rt: &impl Print, number: u32, place: u32) -> io::Result<()> {
     let mut line = [0u8; 64];
     let end = put_refusal(&mut line, number, place);
-    print(&mut line, end);
+    print(rt, &mut line, end)
 }
 
 // An access that is made: the status, the value, the outputs and the owner.
-pub fn access_done(reply: AccessReply) {
+pub fn access_done(rt: &impl Print, reply: AccessReply) -> io::Result<()> {
     let outputs = reply.outputs;
     let mut line = [0u8; 64];
     let a = digits::put_text(&mut line, 0, b"DONE ");
@@ -66,21 +68,21 @@ pub fn access_done(reply: AccessReply) {
     let e = digits::put(&mut line, d, b' ');
     let f = put_outputs(&mut line, e, outputs);
     let g = put_next(&mut line, f, reply.owner);
-    print(&mut line, g);
+    print(rt, &mut line, g)
 }
 
-pub fn event_done(outputs: Outputs) {
+pub fn event_done(rt: &impl Print, outputs: Outputs) -> io::Result<()> {
     let mut line = [0u8; 64];
     let a = digits::put_text(&mut line, 0, b"DONE ");
     let b = put_outputs(&mut line, a, outputs);
-    print(&mut line, b);
+    print(rt, &mut line, b)
 }
 
-pub fn outputs(outputs: Outputs) {
+pub fn outputs(rt: &impl Print, outputs: Outputs) -> io::Result<()> {
     let mut line = [0u8; 64];
     let a = digits::put_text(&mut line, 0, b"OUTPUTS ");
     let b = put_outputs(&mut line, a, outputs);
-    print(&mut line, b);
+    print(rt, &mut line, b)
 }
 
 // Puts the first `size` bytes, or all if there are fewer.
@@ -107,19 +109,19 @@ const FILLED_LINE: usize = 33000;
 
 const RUN_LINE: usize = 34000;
 
-pub fn sequencer(sequencer: Sequencer) {
+pub fn sequencer(rt: &impl Print, sequencer: Sequencer) -> io::Result<()> {
     let bytes = sequencer_state::bytes_of(sequencer);
     let mut line = [0u8; STATE_LINE];
     let a = digits::put_text(&mut line, 0, b"SEQUENCER ");
     let b = put_bytes(&mut line, a, &bytes, sequencer_state::SIZE);
-    print(&mut line, b);
+    print(rt, &mut line, b)
 }
 
-pub fn state(device: Device) {
+pub fn state(rt: &impl Print, device: Device) -> io::Result<()> {
     let mut line = [0u8; STATE_LINE];
     let a = digits::put_text(&mut line, 0, b"STATE ");
     let b = put_state(&mut line, a, device);
-    print(&mut line, b);
+    print(rt, &mut line, b)
 }
 
 fn put_refusal(line: &mut [u8], number: u32, place: u32) -> usize {
@@ -156,11 +158,17 @@ fn put_reply(line: &mut [u8], kind: u8, reply: Reply) -> usize {
 }
 
 // The answer to a command that fills a buffer, with the first `length` bytes of the buffer.
-pub fn filled(kind: u8, reply: Reply, buffer: &[u8], length: usize) {
+pub fn filled(
+    rt: &impl Print,
+    kind: u8,
+    reply: Reply,
+    buffer: &[u8],
+    length: usize,
+) -> io::Result<()> {
     let mut line = [0u8; FILLED_LINE];
     let a = put_reply(&mut line, kind, reply);
     let b = put_buffer(&mut line, a, buffer, length);
-    print(&mut line, b);
+    print(rt, &mut line, b)
 }
 
 // ---- runs
@@ -236,18 +244,24 @@ fn put_ended(line: &mut [u8], outcome: u32, steps: u32, taken: usize, logged: us
     put_next(line, d, short(logged))
 }
 
-pub fn run_ended(res: RunResult, session: Session, log: &[u64]) {
+pub fn run_ended(rt: &impl Print, res: RunResult, session: Session, log: &[u64]) -> io::Result<()> {
     let mut line = [0u8; RUN_LINE];
     let a = put_ended(&mut line, res.outcome, res.steps, res.taken, res.logged);
     let b = put_session(&mut line, a, session, log);
-    print(&mut line, b);
+    print(rt, &mut line, b)
 }
 
-pub fn run_refused(number: u32, place: u32, session: Session, log: &[u64]) {
+pub fn run_refused(
+    rt: &impl Print,
+    number: u32,
+    place: u32,
+    session: Session,
+    log: &[u64],
+) -> io::Result<()> {
     let mut line = [0u8; RUN_LINE];
     let a = put_refusal(&mut line, number, place);
     let b = put_session(&mut line, a, session, log);
-    print(&mut line, b);
+    print(rt, &mut line, b)
 }
 
 fn put_interpreted(line: &mut [u8], res: InterpretResult) -> usize {
@@ -258,10 +272,10 @@ fn put_interpreted(line: &mut [u8], res: InterpretResult) -> usize {
 }
 
 // The answer to a script that was interpreted: it has no sequencer.
-pub fn interpreted(res: InterpretResult, log: &[u64]) {
+pub fn interpreted(rt: &impl Print, res: InterpretResult, log: &[u64]) -> io::Result<()> {
     let device = res.device;
     let mut line = [0u8; RUN_LINE];
     let a = put_interpreted(&mut line, res);
     let b = put_device(&mut line, a, device, log);
-    print(&mut line, b);
+    print(rt, &mut line, b)
 }

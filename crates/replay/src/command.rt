@@ -5,30 +5,32 @@ use crate::{answer, runs, scripts};
 use access::Access;
 use device::Device;
 use state::LoadResult;
+use std::io;
 
-fn access(device: Device, access: Access) -> Device {
+fn access(rt: &impl Print, device: Device, access: Access) -> io::Result<Device> {
     let r = device.single_access(access);
     let next = r.device;
     let reply = r.reply;
     if reply.refusal == 0 {
-        answer::access_done(reply);
+        answer::access_done(rt, reply)?;
     } else {
-        answer::refused(reply.refusal, reply.place);
+        answer::refused(rt, reply.refusal, reply.place)?;
     }
-    next
+    Ok(next)
 }
 
-fn unread(device: Device) -> Device {
-    answer::unread();
-    device
+fn unread(rt: &impl Print, device: Device) -> io::Result<Device> {
+    answer::unread(rt)?;
+    Ok(device)
 }
 
 // R width port
-fn read(device: Device, line: &[u8]) -> Device {
+fn read(rt: &impl Print, device: Device, line: &[u8]) -> io::Result<Device> {
     let width = digits::next_number(line, 1);
     let port = digits::next_number(line, width.next);
     if width.ok && port.ok && digits::at_end(line, port.next) {
         return access(
+            rt,
             device,
             Access {
                 write: false,
@@ -38,16 +40,17 @@ fn read(device: Device, line: &[u8]) -> Device {
             },
         );
     }
-    unread(device)
+    unread(rt, device)
 }
 
 // W width port value
-fn write(device: Device, line: &[u8]) -> Device {
+fn write(rt: &impl Print, device: Device, line: &[u8]) -> io::Result<Device> {
     let width = digits::next_number(line, 1);
     let port = digits::next_number(line, width.next);
     let value = digits::next_number(line, port.next);
     if width.ok && port.ok && value.ok && digits::at_end(line, value.next) {
         return access(
+            rt,
             device,
             Access {
                 write: true,
@@ -57,11 +60,11 @@ fn write(device: Device, line: &[u8]) -> Device {
             },
         );
     }
-    unread(device)
+    unread(rt, device)
 }
 
 // E number
-fn event(device: Device, line: &[u8]) -> Device {
+fn event(rt: &impl Print, device: Device, line: &[u8]) -> io::Result<Device> {
     let number = digits::next_number(line, 1);
     if number.ok && digits::at_end(line, number.next) {
         let r = device.single_event(number.value);
@@ -69,13 +72,13 @@ fn event(device: Device, line: &[u8]) -> Device {
         let reply = r.reply;
         let outputs = reply.outputs;
         if reply.refusal == 0 {
-            answer::event_done(outputs);
+            answer::event_done(rt, outputs)?;
         } else {
-            answer::refused(reply.refusal, reply.place);
+            answer::refused(rt, reply.refusal, reply.place)?;
         }
-        return next;
+        return Ok(next);
     }
-    unread(device)
+    unread(rt, device)
 }
 
 // Reads the bytes of a saved state. Returns false if the line does not have them.
@@ -98,44 +101,44 @@ fn load_bytes(bytes: &[u8; state::SIZE]) -> LoadResult {
 }
 
 // L bytes. After a refusal the device stays as it was.
-fn load(device: Device, line: &[u8]) -> Device {
+fn load(rt: &impl Print, device: Device, line: &[u8]) -> io::Result<Device> {
     let mut bytes = [0u8; state::SIZE];
     if !digits::is_space(line, 1) {
-        return unread(device);
+        return unread(rt, device);
     }
     if line.len() != LOAD_LINE {
-        return unread(device);
+        return unread(rt, device);
     }
     if !state_bytes(line, &mut bytes) {
-        return unread(device);
+        return unread(rt, device);
     }
     let loaded = load_bytes(&bytes);
     let refusal = loaded.refusal();
     if refusal.number == 0 {
-        answer::loaded();
+        answer::loaded(rt)?;
     } else {
-        answer::refused(refusal.number, refusal.place);
+        answer::refused(rt, refusal.number, refusal.place)?;
     }
-    loaded.device_or(device)
+    Ok(loaded.device_or(device))
 }
 
 // F
-fn fresh() -> Device {
-    answer::fresh();
-    Device::fresh()
+fn fresh(rt: &impl Print) -> io::Result<Device> {
+    answer::fresh(rt)?;
+    Ok(Device::fresh())
 }
 
 // O
-fn outputs(device: Device) -> Device {
+fn outputs(rt: &impl Print, device: Device) -> io::Result<Device> {
     let outputs = device.outputs();
-    answer::outputs(outputs);
-    device
+    answer::outputs(rt, outputs)?;
+    Ok(device)
 }
 
 // S
-fn show(device: Device) -> Device {
-    answer::state(device);
-    device
+fn show(rt: &impl Print, device: Device) -> io::Result<Device> {
+    answer::state(rt, device)?;
+    Ok(device)
 }
 
 // The first byte of the line, or 0 if the line is empty.
@@ -146,67 +149,67 @@ fn letter(line: &[u8]) -> u8 {
     0
 }
 
-fn on_device(device: Device, line: &[u8], kind: u8) -> Device {
+fn on_device(rt: &impl Print, device: Device, line: &[u8], kind: u8) -> io::Result<Device> {
     if kind == b'R' {
-        return read(device, line);
+        return read(rt, device, line);
     }
     if kind == b'W' {
-        return write(device, line);
+        return write(rt, device, line);
     }
     if kind == b'E' {
-        return event(device, line);
+        return event(rt, device, line);
     }
     if kind == b'L' {
-        return load(device, line);
+        return load(rt, device, line);
     }
     if !digits::at_end(line, 1) {
-        return unread(device);
+        return unread(rt, device);
     }
     if kind == b'S' {
-        return show(device);
+        return show(rt, device);
     }
     if kind == b'O' {
-        return outputs(device);
+        return outputs(rt, device);
     }
     if kind == b'F' {
-        return fresh();
+        return fresh(rt);
     }
-    unread(device)
+    unread(rt, device)
 }
 
-pub fn run(session: Session, line: &[u8]) -> Session {
+pub fn run(rt: &impl Print, session: Session, line: &[u8]) -> io::Result<Session> {
     let kind = letter(line);
     if kind == scripts::COMPILE {
-        scripts::run(kind, line);
-        return session;
+        scripts::run(rt, kind, line)?;
+        return Ok(session);
     }
     if kind == scripts::ASSEMBLE {
-        scripts::run(kind, line);
-        return session;
+        scripts::run(rt, kind, line)?;
+        return Ok(session);
     }
     if kind == scripts::LIST {
-        scripts::run(kind, line);
-        return session;
+        scripts::run(rt, kind, line)?;
+        return Ok(session);
     }
     if kind == b'Q' {
-        return runs::set_sequencer(session, line);
+        return runs::set_sequencer(rt, session, line);
     }
     if kind == b'P' {
-        return runs::show_sequencer(session, line);
+        return runs::show_sequencer(rt, session, line);
     }
     if kind == b'G' {
-        return runs::load_sequencer(session, line);
+        return runs::load_sequencer(rt, session, line);
     }
     if kind == runs::RUN {
-        return runs::run(session, line, kind);
+        return runs::run(rt, session, line, kind);
     }
     if kind == runs::COMPILE_AND_RUN {
-        return runs::run(session, line, kind);
+        return runs::run(rt, session, line, kind);
     }
     if kind == runs::INTERPRET {
-        return runs::run(session, line, kind);
+        return runs::run(rt, session, line, kind);
     }
     let device = session.device;
-    let next = on_device(device, line, kind);
-    session.with_device(next)
+    let next = on_device(rt, device, line, kind)?;
+    Ok(session.with_device(next))
 }

@@ -9,23 +9,24 @@ use interpreter::InterpretResult;
 use record::Record;
 use sequencer::RunResult;
 use sequencer_state::LoadResult;
+use std::io;
 use step::Sequencer;
 
-fn unread(session: Session) -> Session {
-    answer::unread();
-    session
+fn unread(rt: &impl Print, session: Session) -> io::Result<Session> {
+    answer::unread(rt)?;
+    Ok(session)
 }
 
 // ---- the sequencer
 
-fn set(session: Session, sequencer: Sequencer) -> Session {
-    answer::set();
-    session.with_sequencer(sequencer)
+fn set(rt: &impl Print, session: Session, sequencer: Sequencer) -> io::Result<Session> {
+    answer::set(rt)?;
+    Ok(session.with_sequencer(sequencer))
 }
 
-fn set_fresh(session: Session) -> Session {
+fn set_fresh(rt: &impl Print, session: Session) -> io::Result<Session> {
     let sequencer = Sequencer::fresh();
-    set(session, sequencer)
+    set(rt, session, sequencer)
 }
 
 // Reads eight loop counters from index `at` on. Returns the index after them, or 0 if the line does not have them.
@@ -42,44 +43,58 @@ fn counters_from(line: &[u8], at: usize, counters: &mut [u32; 8]) -> usize {
     next
 }
 
-fn set_counters(session: Session, line: &[u8], at: usize, place: u32, used: usize) -> Session {
+fn set_counters(
+    rt: &impl Print,
+    session: Session,
+    line: &[u8],
+    at: usize,
+    place: u32,
+    used: usize,
+) -> io::Result<Session> {
     let mut counters = [0u32; 8];
     let end = counters_from(line, at, &mut counters);
     if !digits::at_end(line, end) {
-        return unread(session);
+        return unread(rt, session);
     }
     let sequencer = Sequencer {
         place,
         counters,
         used,
     };
-    set(session, sequencer)
+    set(rt, session, sequencer)
 }
 
 // Q, Q place used c0 c1 c2 c3 c4 c5 c6 c7
-pub fn set_sequencer(session: Session, line: &[u8]) -> Session {
+pub fn set_sequencer(rt: &impl Print, session: Session, line: &[u8]) -> io::Result<Session> {
     if digits::at_end(line, 1) {
-        return set_fresh(session);
+        return set_fresh(rt, session);
     }
     let place = digits::next_number(line, 1);
     if !place.ok {
-        return unread(session);
+        return unread(rt, session);
     }
     let used = digits::next_number(line, place.next);
     if !used.ok {
-        return unread(session);
+        return unread(rt, session);
     }
-    set_counters(session, line, used.next, place.value, used.value as usize)
+    set_counters(
+        rt,
+        session,
+        line,
+        used.next,
+        place.value,
+        used.value as usize,
+    )
 }
 
 // P
-pub fn show_sequencer(session: Session, line: &[u8]) -> Session {
+pub fn show_sequencer(rt: &impl Print, session: Session, line: &[u8]) -> io::Result<Session> {
     if !digits::at_end(line, 1) {
-        return unread(session);
+        return unread(rt, session);
     }
     let sequencer = session.sequencer;
-    answer::sequencer(sequencer);
-    session
+    answer::sequencer(rt, sequencer)?;
+    Ok(session)
 }
 
 fn load_front(bytes: &[u8]) -> LoadResult {
@@ -95,16 +110,16 @@ fn load_bytes(bytes: &[u8; strings::MOST_BYTES]) -> LoadResult {
 }
 
 // G bytes. After a refusal the sequencer stays as it was.
-pub fn load_sequencer(session: Session, line: &[u8]) -> Session {
+pub fn load_sequencer(rt: &impl Print, session: Session, line: &[u8]) -> io::Result<Session> {
     let saved = strings::next_string(line, 1);
     if !saved.ok {
-        return unread(session);
+        return unread(rt, session);
     }
     if saved.count != sequencer_state::SIZE {
-        return unread(session);
+        return unread(rt, session);
     }
     if !digits::at_end(line, saved.next) {
-        return unread(session);
+        return unread(rt, session);
     }
     let mut bytes = [0u8; strings::MOST_BYTES];
     strings::copy_bytes(line, saved.at, saved.count, &mut bytes);
@@ -112,11 +127,11 @@ pub fn load_sequencer(session: Session, line: &[u8]) -> Session {
     let refusal = loaded.refusal();
     let present = session.sequencer;
     if refusal.number == 0 {
-        answer::loaded();
+        answer::loaded(rt)?;
     } else {
-        answer::refused(refusal.number, refusal.place);
+        answer::refused(rt, refusal.number, refusal.place)?;
     }
-    session.with_sequencer(loaded.sequencer_or(present))
+    Ok(session.with_sequencer(loaded.sequencer_or(present)))
 }
 
 // ---- the runs
@@ -159,28 +174,29 @@ fn session_of(res: RunResult) -> Session {
 }
 
 // After a refusal the session is unchanged.
-fn answered(session: Session, res: RunResult, log: &[u64]) -> Session {
+fn answered(rt: &impl Print, session: Session, res: RunResult, log: &[u64]) -> io::Result<Session> {
     if sequencer::is_refusal(res.outcome) {
-        answer::run_refused(res.outcome, res.place, session, log);
-        return session;
+        answer::run_refused(rt, res.outcome, res.place, session, log)?;
+        return Ok(session);
     }
     let next = session_of(res);
-    answer::run_ended(res, next, log);
-    next
+    answer::run_ended(rt, res, next, log)?;
+    Ok(next)
 }
 
 // Runs an image on the device and the sequencer of the session.
 fn run_image(
+    rt: &impl Print,
     session: Session,
     budget: u32,
     image: &[u8],
     events: &[u32],
     log: &mut [u64],
-) -> Session {
+) -> io::Result<Session> {
     let device = session.device;
     let sequencer = session.sequencer;
     let result = sequencer::run(image, device, sequencer, events, budget, log);
-    answered(session, result, log)
+    answered(rt, session, result, log)
 }
 
 fn index(words: u32) -> usize
@@ -191,102 +207,109 @@ fn index(words: u32) -> usize
 
 // Runs the first `words` words of an image.
 fn run_words(
+    rt: &impl Print,
     session: Session,
     budget: u32,
     image: &[u8],
     words: u32,
     events: &[u32],
     log: &mut [u64],
-) -> Session
+) -> io::Result<Session>
     requires { (record_size * words ≤ length image.now) × (words ≤ most_records) }
 {
     let end = Record::SIZE * index(words);
-    run_image(session, budget, &image[..end], events, log)
+    run_image(rt, session, budget, &image[..end], events, log)
 }
 
 // Compiles a script and runs its image.
 fn compile_then_run(
+    rt: &impl Print,
     session: Session,
     budget: u32,
     script: &[u8],
     image: &mut [u8],
     events: &[u32],
     log: &mut [u64],
-) -> Session {
+) -> io::Result<Session> {
     let compiled = compiler::compile(script, image);
     if compiled.refusal != 0 {
-        answer::run_refused(compiled.refusal, compiled.place, session, log);
-        return session;
+        answer::run_refused(rt, compiled.refusal, compiled.place, session, log)?;
+        return Ok(session);
     }
-    run_words(session, budget, image, compiled.words, events, log)
+    run_words(rt, session, budget, image, compiled.words, events, log)
 }
 
 // An image buffer of this size is long enough for every script.
 const IMAGE_SIZE: usize = Record::SIZE * Record::MOST;
 
 fn run_script(
+    rt: &impl Print,
     session: Session,
     budget: u32,
     script: &[u8],
     events: &[u32],
     log: &mut [u64],
-) -> Session {
+) -> io::Result<Session> {
     let mut image = [0u8; IMAGE_SIZE];
-    compile_then_run(session, budget, script, &mut image, events, log)
+    compile_then_run(rt, session, budget, script, &mut image, events, log)
 }
 
 // Interprets a script on the device of the session. A refusal returns the device unchanged.
 fn interpret(
+    rt: &impl Print,
     session: Session,
     budget: u32,
     script: &[u8],
     events: &[u32],
     log: &mut [u64],
-) -> Session {
+) -> io::Result<Session> {
     let device = session.device;
     let result = interpreter::interpret(script, device, events, budget, log);
     let next = result.device;
-    answer::interpreted(result, log);
-    session.with_device(next)
+    answer::interpreted(rt, result, log)?;
+    Ok(session.with_device(next))
 }
 
 fn perform(
+    rt: &impl Print,
     session: Session,
     request: RunRequest,
     bytes: &[u8],
     events: &[u32],
     log: &mut [u64],
-) -> Session {
+) -> io::Result<Session> {
     if request.letter == INTERPRET {
-        return interpret(session, request.budget, bytes, events, log);
+        return interpret(rt, session, request.budget, bytes, events, log);
     }
     if request.letter == COMPILE_AND_RUN {
-        return run_script(session, request.budget, bytes, events, log);
+        return run_script(rt, session, request.budget, bytes, events, log);
     }
-    run_image(session, request.budget, bytes, events, log)
+    run_image(rt, session, request.budget, bytes, events, log)
 }
 
 // A command that is too large for the buffers of `replay` is answered `UNREAD`.
 fn run_within(
+    rt: &impl Print,
     session: Session,
     request: RunRequest,
     bytes: &[u8],
     events: &[u32],
     log: &mut [u64],
-) -> Session {
+) -> io::Result<Session> {
     let count = request.bytes;
     let number = request.events;
     let size = request.size;
     if bytes.len() < count {
-        return unread(session);
+        return unread(rt, session);
     }
     if events.len() < number {
-        return unread(session);
+        return unread(rt, session);
     }
     if log.len() < size {
-        return unread(session);
+        return unread(rt, session);
     }
     perform(
+        rt,
         session,
         request,
         &bytes[..count],
@@ -296,48 +319,54 @@ fn run_within(
 }
 
 fn run_on(
+    rt: &impl Print,
     session: Session,
     request: RunRequest,
     bytes: &[u8; strings::MOST_BYTES],
     events: &[u32; strings::MOST_EVENTS],
     log: &mut [u64; LOG_SIZE],
-) -> Session {
-    run_within(session, request, bytes, events, log)
+) -> io::Result<Session> {
+    run_within(rt, session, request, bytes, events, log)
 }
 
-fn run_request(session: Session, line: &[u8], request: RunRequest) -> Session {
+fn run_request(
+    rt: &impl Print,
+    session: Session,
+    line: &[u8],
+    request: RunRequest,
+) -> io::Result<Session> {
     let mut bytes = [0u8; strings::MOST_BYTES];
     let mut events = [0u32; strings::MOST_EVENTS];
     let mut log = [0u64; LOG_SIZE];
     strings::copy_bytes(line, request.bytes_at, request.bytes, &mut bytes);
     strings::copy_numbers(line, request.events_at, request.events, &mut events);
     lend(&mut log);
-    run_on(session, request, &bytes, &events, &mut log)
+    run_on(rt, session, request, &bytes, &events, &mut log)
 }
 
 // X budget size events image, T budget size events script, N budget size events script
-pub fn run(session: Session, line: &[u8], letter: u8) -> Session {
+pub fn run(rt: &impl Print, session: Session, line: &[u8], letter: u8) -> io::Result<Session> {
     let budget = digits::next_number(line, 1);
     if !budget.ok {
-        return unread(session);
+        return unread(rt, session);
     }
     let size = digits::next_number(line, budget.next);
     if !size.ok {
-        return unread(session);
+        return unread(rt, session);
     }
     let events = strings::next_string_or_dash(line, size.next);
     if !events.ok {
-        return unread(session);
+        return unread(rt, session);
     }
     if events.count % 4 != 0 {
-        return unread(session);
+        return unread(rt, session);
     }
     let bytes = strings::next_string_or_dash(line, events.next);
     if !bytes.ok {
-        return unread(session);
+        return unread(rt, session);
     }
     if !digits::at_end(line, bytes.next) {
-        return unread(session);
+        return unread(rt, session);
     }
     let request = RunRequest {
         letter,
@@ -348,5 +377,5 @@ pub fn run(session: Session, line: &[u8], letter: u8) -> Session {
         bytes_at: bytes.at,
         bytes: bytes.count,
     };
-    run_request(session, line, request)
+    run_request(rt, session, line, request)
 }

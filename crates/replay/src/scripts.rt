@@ -2,6 +2,7 @@
 // docs/CASES.md, "Commands".
 use crate::strings::MOST_BYTES;
 use crate::{answer, strings};
+use std::io;
 
 pub const COMPILE: u8 = b'C';
 
@@ -62,57 +63,66 @@ fn call(kind: u8, input: &[u8], buffer: &mut [u8]) -> Reply {
 }
 
 // Bytes or a buffer that are too long for `replay` are answered `UNREAD`.
-fn call_with(kind: u8, input: &[u8], count: usize, buffer: &mut [u8], length: usize) {
+fn call_with(
+    rt: &impl Print,
+    kind: u8,
+    input: &[u8],
+    count: usize,
+    buffer: &mut [u8],
+    length: usize,
+) -> io::Result<()> {
     if input.len() < count {
-        answer::unread();
-        return;
+        return answer::unread(rt);
     }
     if buffer.len() < length {
-        answer::unread();
-        return;
+        return answer::unread(rt);
     }
     let reply = call(kind, &input[..count], &mut buffer[..length]);
-    answer::filled(kind, reply, buffer, length);
+    answer::filled(rt, kind, reply, buffer, length)
 }
 
 fn call_with_arrays(
+    rt: &impl Print,
     kind: u8,
     input: &[u8; MOST_BYTES],
     count: usize,
     buffer: &mut [u8; MOST_BYTES],
     length: usize,
-) {
-    call_with(kind, input, count, buffer, length);
+) -> io::Result<()> {
+    call_with(rt, kind, input, count, buffer, length)
 }
 
-fn carry_out(kind: u8, line: &[u8], at: usize, count: usize, length: usize) {
+fn carry_out(
+    rt: &impl Print,
+    kind: u8,
+    line: &[u8],
+    at: usize,
+    count: usize,
+    length: usize,
+) -> io::Result<()> {
     let mut input = [0u8; MOST_BYTES];
     let mut buffer = [0u8; MOST_BYTES];
     strings::copy_bytes(line, at, count, &mut input);
     lend(&mut buffer);
-    call_with_arrays(kind, &input, count, &mut buffer, length);
+    call_with_arrays(rt, kind, &input, count, &mut buffer, length)
 }
 
 // C length, C length script; A length, A length text; D length, D length script
-pub fn run(kind: u8, line: &[u8]) {
+pub fn run(rt: &impl Print, kind: u8, line: &[u8]) -> io::Result<()> {
     let length = digits::next_number(line, 1);
     if !length.ok {
-        answer::unread();
-        return;
+        return answer::unread(rt);
     }
     let size = length.value as usize;
     if digits::at_end(line, length.next) {
-        carry_out(kind, line, 0, 0, size);
-        return;
+        return carry_out(rt, kind, line, 0, 0, size);
     }
     let input = strings::next_string(line, length.next);
     if !input.ok {
-        answer::unread();
-        return;
+        return answer::unread(rt);
     }
     if !digits::at_end(line, input.next) {
-        answer::unread();
-        return;
+        return answer::unread(rt);
     }
-    carry_out(kind, line, input.at, input.count, size);
+    carry_out(rt, kind, line, input.at, input.count, size)
 }

@@ -1,12 +1,15 @@
 // The program `trace` compiles the script on standard input and runs its image on the fresh device, from the fresh sequencer. It prints the values
-// that are logged, each with the owner of its port, and the ending, or the refusal. See docs/CHIP.md, "Runs".
+// that are logged, each with the owner of its port, and the ending, or the refusal. See docs/CHIP.md, "Runs". A read or a write that the system
+// refuses ends it with that error.
+#![tactic(auto)]
+
 ghost use Rattle.std.specs.Prelude.{◌≡◌, ◌*◌, ◌≤◌, length, take};
 ghost use Rattle.record.specs.Record.{most_records, record_size};
 ghost use Rattle.trace.specs.Trace.{fresh_log, fresh_run, ran_summary, trace_log, trace_summary};
 
 use device::Device;
-use libc::{STDIN_FILENO, STDOUT_FILENO};
 use record::Record;
+use std::io;
 use step::Sequencer;
 use trace_text::Summary;
 
@@ -61,29 +64,34 @@ fn run_script(script: &[u8], image: &mut [u8], log: &mut [u64]) -> Summary
     run_words(image, compiled.words, log)
 }
 
-fn write(text: &[u8], end: usize) {
+fn write(output: &impl Print, text: &[u8], end: usize) -> io::Result<()> {
     if end <= text.len() {
-        io::write_all(STDOUT_FILENO, &text[..end]);
+        output.write_all(&text[..end])?;
     }
+    Ok(())
 }
 
 // The whole text is put into a buffer and written at once.
-fn print(summary: Summary, log: &[u64; trace_text::LOG_SIZE]) {
+fn print(
+    output: &impl Print,
+    summary: Summary,
+    log: &[u64; trace_text::LOG_SIZE],
+) -> io::Result<()> {
     let mut text = [0u8; trace_text::TEXT_SIZE];
     let end = trace_text::put_whole(&mut text, summary, log);
-    write(&text, end);
+    write(output, &text, end)
 }
 
-fn trace(script: &[u8]) {
+fn trace(output: &impl Print, script: &[u8]) -> io::Result<()> {
     let mut image = [0u8; IMAGE_SIZE];
     let mut log = [0u64; trace_text::LOG_SIZE];
     let summary = run_script(script, &mut image, &mut log);
-    print(summary, &log);
+    print(output, summary, &log)
 }
 
 // Longer input than the buffer is cut off there, and is still refused with 1.
-fn main() {
+fn main(rt: HostRuntime) -> io::Result<()> {
     let mut script = [0u8; trace_text::SCRIPT_SIZE];
-    let count = io::read_full(STDIN_FILENO, &mut script);
-    trace(&script[..count]);
+    let count = input::read_full(&mut rt.stdin(), &mut script)?;
+    trace(&rt, &script[..count])
 }
