@@ -1,5 +1,7 @@
 // The functions for programs in other languages. They take numbers and slices, and give an answer whatever these contain. C programs call them
 // through the inline functions of bindings/c/runnelopal.h, which also take null pointers for empty slices; hence `raw` in their names.
+#![tactic(auto)]
+
 pub mod answer;
 mod runs;
 
