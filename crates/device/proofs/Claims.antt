@@ -15,23 +15,7 @@ use Rattle.lists.proofs.Tests.{first_at_most, first_holds}
 use Rattle.lists.specs.Tests.{holds_at}
 use Rattle.mask.proofs.Every.{and_left, and_right}
 use Rattle.device.specs.Dispatch.{answers, unclaimed}
-use Rattle.device.specs.Owner.{
-  acpi,
-  acpi_claims,
-  acpi_port,
-  claims,
-  config_claims,
-  config_port,
-  configuration,
-  is_active,
-  key,
-  key_claims,
-  key_port,
-  monitor,
-  monitor_claims,
-  monitor_port,
-  owner,
-}
+use Rattle.device.specs.Owner.{acpi, acpi_port, claims, config_port, configuration, is_active, key, key_claims, key_port, monitor, monitor_claims, monitor_port, owner}
 use Rattle.device.specs.declared.Device.{Device}
 
 -- a base is at most its mask, so adding an offset does not overflow

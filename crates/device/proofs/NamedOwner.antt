@@ -1,7 +1,7 @@
 -- The owner in the answer to an access: the first block that claims the port, at every status. An access that a block accepts has an owner.
 use Prim.Native.Nat.{ℕ, suc, ◌<◌}
 use mathlib.Core.Path.{◌≡◌, refl, sym, ◌∙◌}
-use mathlib.Core.Bool.{true, false}
+use mathlib.Core.Bool.{false}
 use native.Mathlib.Omega.{arith}
 use Rattle.access.specs.declared.Access.{Access}
 use Rattle.lists.proofs.Tests.{FirstAt, first_holds, none_holds}

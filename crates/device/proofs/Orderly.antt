@@ -1,6 +1,6 @@
 -- "Apart from the settling below, statuses 1 to 5 change nothing. [..] A write's value answer is 0." Every status is one of those in the
 -- table. This holds of every device and access, because it holds of each block (`Orderly`).
-use Prim.Native.Nat.{ℕ, ◌-◌}
+use Prim.Native.Nat.{◌-◌}
 use mathlib.Core.Path.{◌≡◌, refl, ap, ◌∙◌}
 use mathlib.Core.Bool.{Bool, true, false, cond}
 use Rattle.access.proofs.Block.{Orderly, StatusInTable}

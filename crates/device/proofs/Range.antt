@@ -15,7 +15,6 @@ use Rattle.config.specs.declared.Config.{Config}
 use Rattle.key.specs.declared.Key.{Key}
 use Rattle.lists.proofs.All.{at_any}
 use Rattle.lists.proofs.Tests.{all_hold_lem, all_held}
-use Rattle.lists.specs.All.{All}
 use Rattle.mask.proofs.Branch.{branch}
 use Rattle.monitor.proofs.Range as in-monitor
 use Rattle.monitor.specs.Monitor.{monitor_in_range}

@@ -1,22 +1,22 @@
 -- Loading what was saved returns the device, and saving what was loaded returns the bytes. Both follow from the laws of the
 -- blocks, each applied to the part of its block.
 use Prim.Native.Nat.{ℕ, ◌+◌, ◌<◌}
-use mathlib.Core.Path.{◌≡◌, refl, ap, sym, ◌∙◌}
-use mathlib.Core.Bool.{Bool, true, false}
+use mathlib.Core.Path.{◌≡◌, ap, ◌∙◌}
+use mathlib.Core.Bool.{true}
 use mathlib.Core.List.{List, [], ◌∷◌, ◌++◌}
 use lib.ListN.{drop, get_or, length, length-append, length-drop}
 use native.Mathlib.Omega.{arith}
 use borrow.Author.Tests.{eq-eqb}
 use Rattle.acpi.proofs.Saved as of-acpi
-use Rattle.acpi.specs.Saved.{acpi_bytes, acpi_from, acpi_saved, acpi_size}
+use Rattle.acpi.specs.Saved.{acpi_bytes, acpi_saved, acpi_size}
 use Rattle.config.proofs.Saved as of-config
-use Rattle.config.specs.Saved.{config_bytes, config_from, config_saved, config_size}
+use Rattle.config.specs.Saved.{config_bytes, config_saved, config_size}
 use Rattle.device.specs.declared.Device.{Device}
 use Rattle.key.proofs.Saved as of-key
-use Rattle.key.specs.Saved.{key_bytes, key_from, key_size}
+use Rattle.key.specs.Saved.{key_bytes, key_size}
 use Rattle.lists.proofs.Tests.{all_hold_lem, all_held}
 use Rattle.monitor.proofs.Saved as of-monitor
-use Rattle.monitor.specs.Saved.{monitor_bytes, monitor_from, monitor_saved, monitor_size}
+use Rattle.monitor.specs.Saved.{monitor_bytes, monitor_saved, monitor_size}
 use Rattle.outcome.specs.Refusal.{refusal}
 use Rattle.state.proofs.Parts.{cut, front_part, later_part, part_bytes, part_length, whole_part}
 use Rattle.state.specs.State.{
