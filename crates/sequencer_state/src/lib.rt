@@ -167,6 +167,7 @@ pub fn save(sequencer: Sequencer, bytes: &mut [u8]) -> Refusal
 
 // Reads the state from a slice. Refuses a slice that is not `SIZE` bytes long, with 11. A sequencer that is loaded may still be out of range; then
 // the run that gets it is refused with 11.
+#[tactic(auto, unfolding(crate::specs::State::loaded))]
 pub fn load(bytes: &[u8]) -> LoadResult
     ensures { result ≡ loaded bytes.now }
 {

@@ -1,5 +1,7 @@
 // The text that the programs `trace` and `interpret` print: the values that were logged, each with the owner of its port, and the ending, or the
 // refusal. `put_whole` puts all of it into a buffer; the programs write it. specs/Printed.antt defines it.
+#![tactic(auto)]
+
 ghost use Rattle.std.specs.Prelude.{◌≡◌, length, take};
 ghost use Rattle.digits.specs.Text.{line_at, puts};
 ghost use Rattle.trace_text.specs.Printed.{read_text, reads_text, end_text, printed, log_size, text_size};
