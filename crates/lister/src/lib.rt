@@ -61,6 +61,7 @@ fn line_depth(depth: usize, kind: u32) -> usize
 }
 
 // The number of spaces at the start of the line.
+#[tactic(auto, unfolding(crate::specs::Listing::margin_length))]
 fn margin_length(depth: usize, kind: u32) -> usize
     requires { kind ≤ recordKind.end }
     ensures { result ≡ margin_length depth kind }
@@ -73,6 +74,7 @@ fn margin_length(depth: usize, kind: u32) -> usize
 }
 
 // The number of blocks that are open after the record.
+#[tactic(auto, unfolding(crate::specs::Listing::depth_after))]
 fn depth_after(depth: usize, kind: u32) -> usize
     requires { depth ≤ most_records }
     ensures { result ≡ depth_after depth kind }
@@ -153,6 +155,7 @@ fn put_count(text: &mut [u8], at: usize, r: Record) -> usize
     digits::put_decimal(text, a, r.value)
 }
 
+#[tactic(auto, using(crate::proofs::Pieces::end_put))]
 fn put_statement(text: &mut [u8], at: usize, r: Record) -> usize
     requires { shape_fault r ≡ 0 }
     ensures { line_at text.new result ≡ puts (statement_text r) (line_at text.old at) }
@@ -217,6 +220,7 @@ fn bytes_length(width: u32) -> usize
     }
 }
 
+#[tactic(auto, using(crate::proofs::Lengths::end_long))]
 fn statement_length(r: Record) -> usize
     requires { shape_fault r ≡ 0 }
     ensures { result ≡ length (statement_text r) }

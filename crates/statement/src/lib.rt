@@ -149,6 +149,7 @@ fn digit_value(b: u8) -> u64
     digits::digit(b) as u64
 }
 
+#[tactic(auto, unfolding(crate::specs::Line::capped))]
 fn capped(n: u64) -> u64
     ensures { result ≡ capped n }
 {
@@ -193,6 +194,7 @@ fn read_number(word: &[u8]) -> Number
 // ---- statements
 
 // The kind of a keyword, or 0.
+#[tactic(auto, unfolding(crate::specs::Line::kind_of))]
 fn keyword(word: &[u8]) -> u32
     ensures { result ≡ kind_of word.now }
 {
@@ -221,6 +223,7 @@ fn keyword(word: &[u8]) -> u32
 }
 
 // How many numbers follow a keyword.
+#[tactic(auto, unfolding(crate::specs::Line::operand_count))]
 fn operand_count(kind: u32) -> u32
     ensures { result ≡ operand_count kind }
 {

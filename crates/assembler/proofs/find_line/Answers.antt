@@ -1,5 +1,4 @@
 -- `find_line` goes from line to line. At each turn the line that it looks for is one of those that are left.
-use Prim.Native.Nat.{◌-◌}
 use mathlib.Core.Logic.{inl, inr}
 use native.Mathlib.Omega.{arith}
 use Rattle.statement.proofs.Runs.{run_inside}

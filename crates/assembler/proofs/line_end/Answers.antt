@@ -1,5 +1,4 @@
 -- `line_end` returns the index of the first line feed, or the length. At each turn no byte since `at` is one.
-use Prim.Native.Nat.{◌-◌}
 use mathlib.Core.Path.{refl}
 use borrow.Author.Tests.{eq-eqb, ne_eqb}
 use Rattle.statement.proofs.Runs.{scan_end, scan_on, scan_stop}

@@ -1,5 +1,4 @@
 -- `read_lines` reads line after line and keeps `Reading`. It stops at a bad line or at the end of the text.
-use Prim.Native.Nat.{◌-◌}
 use mathlib.Core.Path.{ap, sym, ◌∙◌}
 use native.Mathlib.Omega.{arith}
 use Rattle.statement.proofs.Runs.{run_inside}

@@ -1,7 +1,5 @@
 -- `measure` returns `measured`. Each turn of the loop adds the length of a line (`Measuring`), and stops at the first wrong record.
-use Prim.Native.Nat.{◌+◌, ◌-◌, ◌≤◌}
-use native.Mathlib.Omega.{arith}
-use Rattle.lister.proofs.Lengths.{margin_most, statement_most}
+use Prim.Native.Nat.{◌-◌}
 use Rattle.lister.proofs.Lines.{Measuring}
 use Rattle.lister.proofs.measure.Given as goal
 

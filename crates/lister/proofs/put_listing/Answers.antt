@@ -1,8 +1,7 @@
 -- `put_listing` puts the listing in the front of the buffer. At each turn of the loop, the lines that are left complete it (`Putting`).
-use Prim.Native.Nat.{◌-◌}
-use mathlib.Core.Path.{◌≡◌, ap, ◌∙◌}
+use mathlib.Core.Path.{ap, ◌∙◌}
 use native.Mathlib.Omega.{arith}
-use Rattle.digits.specs.Text.{Line, line_at, puts}
+use Rattle.digits.specs.Text.{Line}
 use Rattle.lister.specs.Listing.{listing}
 use Rattle.lister.proofs.Lines.{put_all, put_more, putting, right_record}
 use Rattle.lister.proofs.Pieces.{put_in_front}

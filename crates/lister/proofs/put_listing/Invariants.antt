@@ -1,9 +1,6 @@
 -- `put_listing` puts the listing in the front of the buffer. At each turn of the loop, the lines that are left complete it (`Putting`).
 use Prim.Native.Nat.{◌-◌}
-use mathlib.Core.Path.{◌≡◌}
-use Rattle.digits.specs.Text.{line_at, puts}
-use Rattle.lister.specs.Listing.{listing}
-use Rattle.lister.proofs.Lines.{Putting, put_all}
+use Rattle.lister.proofs.Lines.{Putting}
 use Rattle.lister.proofs.put_listing.Given as goal
 
 abbrev pub invariant-loop-k : goal.invariant-loop-k

@@ -1,10 +1,8 @@
 -- `put_spaces` puts that many spaces. At each turn of the loop, the spaces that are left complete the text.
-use Prim.Native.Nat.{ℕ, ◌-◌, ◌≤◌}
-use mathlib.Core.List.{List}
-use mathlib.Core.Path.{◌≡◌, ap, sym, ◌∙◌}
+use Prim.Native.Nat.{◌-◌, ◌≤◌}
+use mathlib.Core.Path.{◌≡◌}
 use lib.ListN.{replicate}
 use Rattle.digits.specs.Text.{line_at, puts}
-use Rattle.lister.proofs.Pieces.{no_space}
 use Rattle.lister.proofs.put_spaces.Given as goal
 
 abbrev pub invariant-loop-k : goal.invariant-loop-k

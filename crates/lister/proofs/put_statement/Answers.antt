@@ -1,5 +1,5 @@
 -- `put_statement` puts `statement_text`: each kind has its own words. A record without a fault has a width of one digit, if it has one.
-use Rattle.lister.proofs.Pieces.{delay_put, else_put, end_put, if_put, read_put, repeat_put, write_put}
+use Rattle.lister.proofs.Pieces.{delay_put, else_put, if_put, read_put, repeat_put, write_put}
 use Rattle.lister.proofs.Records.{if_width, read_width, write_width}
 use Rattle.lister.proofs.put_statement.Goals as goal
 
@@ -35,8 +35,3 @@ returns-in-5 c =
 pub returns-in-6 : goal.returns-in-6
 returns-in-6 c =
     else_put c.args.r _ c.in-6.is c.put_text.ensures
-
-pub returns-in_default : goal.returns-in_default
-returns-in_default c =
-    let rest = c.in_default.in_default-own.rest in
-    end_put c.args.r _ rest.0.0.0.0.0.1 rest.0.0.0.0.1 rest.0.0.0.1 rest.0.0.1 rest.0.1 rest.1 c.put_text-in_default.ensures

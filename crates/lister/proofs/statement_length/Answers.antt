@@ -1,7 +1,7 @@
 -- `statement_length` returns the length of `statement_text`: each kind has its own length. A record without a fault has a count up to 65,535, if it has one.
 use native.Mathlib.Omega.{arith}
 use Rattle.digits.proofs.Puts.{decimal_length}
-use Rattle.lister.proofs.Lengths.{bytes_most, delay_long, else_long, end_long, if_long, read_long, repeat_long, write_long}
+use Rattle.lister.proofs.Lengths.{bytes_most, delay_long, else_long, if_long, read_long, repeat_long, write_long}
 use Rattle.lister.proofs.Records.{delay_count, repeat_count}
 use Rattle.lister.proofs.statement_length.Goals as goal
 
@@ -40,6 +40,3 @@ returns-in-5 c = if_long c.args.r c.in-5.is c.bytes_length-in-5.ensures
 
 pub returns-in-6 : goal.returns-in-6
 returns-in-6 c = else_long c.args.r c.in-6.is
-
-pub returns-in_default : goal.returns-in_default
-returns-in_default c = let rest = c.in_default.in_default-own.rest in end_long c.args.r rest.0.0.0.0.0.1 rest.0.0.0.0.1 rest.0.0.0.1 rest.0.0.1 rest.0.1 rest.1

@@ -1,5 +1,4 @@
 -- `number_of` returns the number of digits of a base. At each turn, the digits that are left complete it.
-use Prim.Native.Nat.{◌-◌}
 use native.Mathlib.Nat.{mul-le-mul}
 use native.Mathlib.Omega.{arith}
 use Rattle.statement.specs.Line.{too_big}

@@ -1,7 +1,7 @@
 -- `read_statement` reads the keyword, then its numbers, and checks that nothing is left. Where it stops early, the text is not a statement, or a number
 -- does not fit.
 use mathlib.Core.Path.{◌≡◌, ap, sym, ◌∙◌}
-use mathlib.Core.Bool.{true, false≢true}
+use mathlib.Core.Bool.{false≢true}
 use mathlib.Core.List.{[], ◌∷◌}
 use native.Mathlib.Omega.{arith}
 use borrow.Author.Tests.{lt-ltb}

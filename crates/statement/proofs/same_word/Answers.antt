@@ -1,9 +1,7 @@
--- `same_word_lem` compares the lengths, then byte by byte. At each turn, what is left decides.
-use Prim.Native.Nat.{◌-◌}
+-- `same_word` compares the lengths, then byte by byte. At each turn, what is left decides.
 use mathlib.Core.Path.{refl, sym, ◌∙◌}
 use native.Mathlib.Numerals.{add-one}
 use native.Mathlib.Omega.{arith}
-use lib.ListN.{length}
 use Rattle.statement.proofs.Reading.{other_length, same_end, same_on, same_stop}
 use Rattle.statement.proofs.same_word.Goals as goal
 

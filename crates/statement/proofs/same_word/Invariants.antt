@@ -1,4 +1,4 @@
--- `same_word_lem` compares the lengths, then byte by byte. At each turn, what is left decides.
+-- `same_word` compares the lengths, then byte by byte. At each turn, what is left decides.
 use Prim.Native.Nat.{◌-◌, ◌≤◌}
 use mathlib.Core.Path.{◌≡◌}
 use lib.ListN.{drop, length}

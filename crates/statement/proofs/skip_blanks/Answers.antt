@@ -1,8 +1,6 @@
 -- `skip_blanks` returns the index of the first byte that is not a blank, or the length. At each turn all bytes since `at` are blanks.
-use Prim.Native.Nat.{◌-◌}
 use mathlib.Core.Path.{refl, sym, ◌∙◌}
 use Rattle.statement.specs.Line.{is_blank}
-use Rattle.statement.proofs.Reading.{not_left, not_taken}
 use Rattle.statement.proofs.Runs.{scan_end, scan_on, scan_stop}
 use Rattle.statement.proofs.skip_blanks.Goals as goal
 
@@ -13,7 +11,7 @@ pub loop-k-preserved : goal.loop-k-preserved
 loop-k-preserved c =
     let l = c.loop-k in
     let a = c.args in
-    scan_on is_blank a.s.now a.at l.k l.invariant c.loop-k-test.true (sym c.is_blank.ensures ∙ not_left _ c.if-not-is_blank.false-raw)
+    scan_on is_blank a.s.now a.at l.k l.invariant c.loop-k-test.true (sym c.is_blank.ensures ∙ c.if-not-is_blank.false)
 
 pub returns-after-loop-k : goal.returns-after-loop-k
 returns-after-loop-k c =
@@ -24,4 +22,4 @@ pub returns-then-not-is_blank : goal.returns-then-not-is_blank
 returns-then-not-is_blank c =
     let l = c.loop-k in
     let a = c.args in
-    scan_stop is_blank a.s.now a.at l.k l.invariant c.loop-k-test.true (sym c.is_blank.ensures ∙ not_taken _ c.if-not-is_blank.true-raw)
+    scan_stop is_blank a.s.now a.at l.k l.invariant c.loop-k-test.true (sym c.is_blank.ensures ∙ c.if-not-is_blank.true)

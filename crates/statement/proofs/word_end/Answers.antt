@@ -1,5 +1,4 @@
 -- `word_end` returns the index of the first blank, or the length. At each turn no byte since `at` is a blank.
-use Prim.Native.Nat.{◌-◌}
 use mathlib.Core.Path.{refl}
 use Rattle.statement.specs.Line.{not_blank}
 use Rattle.statement.proofs.Runs.{scan_end, scan_on, scan_stop}
