@@ -1,6 +1,6 @@
 -- The table of partners: for each record that opens, parts or closes a block, the place where the walk continues if it does not go on with
 -- the next record. Only contracts and proofs inside this crate use this file.
-use Rattle.std.specs.Prelude.{ℕ, suc, ◌+◌, ◌≤◌, ◌<◌, ◌≡◌, cond, List, [], ◌∷◌, eqb, leb, get_or, length, replicate, set}
+use Rattle.std.specs.Prelude.{ℕ, suc, ◌≤◌, ◌<◌, ◌≡◌, cond, List, [], ◌∷◌, eqb, leb, get_or, length, replicate, set}
 use Rattle.lists.specs.Stack.{stack_of}
 use Rattle.record.specs.Record.{most_records}
 use Rattle.record.specs.declared.Record.{Record}

@@ -3,14 +3,13 @@ use Prim.Native.Nat.{ℕ, zero, suc}
 use mathlib.Core.Path.{◌≡◌, refl}
 use mathlib.Core.Bool.{false}
 use mathlib.Core.List.{List}
-use native.Mathlib.Omega.{arith}
 use lib.Dec.{eqb, leb}
 use lib.ListN.{length}
 use Rattle.device.specs.declared.Device.{Device}
 use Rattle.mask.proofs.Branch.{branch}
 use Rattle.record.specs.declared.Record.{Record}
 use Rattle.semantics.specs.World.{start_world}
-use Rattle.sequencer.specs.Run.{RunEnd, follow, image_run, is_refusal, run_from}
+use Rattle.sequencer.specs.Run.{follow, image_run, is_refusal, run_from}
 use Rattle.step.specs.Sequencer.{counters_of}
 use Rattle.step.specs.Step.{
   Machine,

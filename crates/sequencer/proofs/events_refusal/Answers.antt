@@ -1,12 +1,10 @@
 -- `events_refusal` is `events_refusal`. The loop invariant: the first bad event of the list is the first from k on
 -- (FirstBad.antt).
-use borrow.Author.Rules.{scaled_Fits}
 use borrow.Author.Tests.{not-true, not-false}
 use Rattle.sequencer.proofs.FirstBad.{bad_here, bad_further, bad_none}
 use Rattle.sequencer.specs.Run.{events_refusal}
 use native.Mathlib.Omega.{arith}
 use mathlib.Core.Path.{refl, sym, ◌∙◌}
-use Prim.Native.Nat.{◌-◌}
 use borrow.Author.Tests.{le-ltb, lt-ltb}
 use Rattle.sequencer.proofs.events_refusal.Goals as goal
 

@@ -82,21 +82,24 @@ apply_answer-position-requires c =
     let g = c.loop-steps.invariant c.args.sequencer c.start-position.ensures c.counters_of-counters.ensures in
     let small : c.loop-steps.position.place < most_records = omega (arith, c.if-words-position.false, c.requires.0) in
     let faultless = sym c.fault-fault.ensures ∙ c.if-fault-ne0.false in
-    let control = sym c.is_control.ensures ∙ c.if-is_control.false in
-    (small, g.holds.inside, access_ready _ c.loop-steps.position c.read-word.result c.loop-steps.log faultless control c.if-word-eq-HALT.false
-      c.if-word-eq-DELAY.false)
+    let control = sym c.is_control.ensures ∙ c.if-is_control.false in (
+      small,
+      g.holds.inside,
+      access_ready _ c.loop-steps.position c.read-word.result c.loop-steps.log faultless control c.if-word-eq-HALT.false
+          c.if-word-eq-DELAY.false,
+    )
 
 -- the device before the access is that after the next event, if there is one
 pub loop-steps-preserved : goal.loop-steps-preserved
 loop-steps-preserved c = λ s h q.
     let k = fetched c.if-words-position.false c.read-word.ensures c.index.ensures c.fault-fault.ensures in
     let arrived : c.if-taken-events.last.device
-        ≡ after_next_event c.loop-steps.last.device (drop c.loop-steps.position.taken c.args.events.now) =
+    ≡ after_next_event c.loop-steps.last.device (drop c.loop-steps.position.taken c.args.events.now) =
     elim c.if-taken-events.branch [
-      then-taken-events w ↦
-        ap (λ (r : AccessResult). r.device) w.last-is ∙ w.apply_event-last-then-taken-events.ensures
-        ∙ sym (next_there _ _ _ w.if-taken-events.true)
-    | else-taken-events w ↦ ap (λ (r : AccessResult). r.device) w.last-is ∙ sym (next_none _ _ _ w.if-taken-events.false)
+      | then-taken-events w ↦
+          ap (λ (r : AccessResult). r.device) w.last-is ∙ w.apply_event-last-then-taken-events.ensures
+          ∙ sym (next_there _ _ _ w.if-taken-events.true)
+      | else-taken-events w ↦ ap (λ (r : AccessResult). r.device) w.last-is ∙ sym (next_none _ _ _ w.if-taken-events.false)
     ] in
     let done = c.access-last.ensures ∙ ap (device_access _) c.access_of.ensures in
     rw c.count_step-steps-else-word-eq-DELAY.ensures

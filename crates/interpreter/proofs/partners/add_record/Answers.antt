@@ -24,13 +24,13 @@ pub bounds-closers-around : goal.bounds-closers-around
 bounds-closers-around c = omega (arith, c.requires.1.few, c.requires.1.some c.if-kind-eq-END.false)
 
 pub overflow_add-partners : goal.overflow_add-partners
-overflow_add-partners c =  omega (arith, c.requires.2.small (c.args.depth - 1))
+overflow_add-partners c = omega (arith, c.requires.2.small (c.args.depth - 1))
 
 pub offset_bounds-closers-around-then-kind-eq-ELSE : goal.offset_bounds-closers-around-then-kind-eq-ELSE
 offset_bounds-closers-around-then-kind-eq-ELSE c = omega (arith, c.requires.1.few)
 
 pub bounds-closers-around-then-kind-eq-ELSE : goal.bounds-closers-around-then-kind-eq-ELSE
-bounds-closers-around-then-kind-eq-ELSE c =  omega (arith, c.requires.1.few, c.requires.1.some c.if-kind-eq-END.false)
+bounds-closers-around-then-kind-eq-ELSE c = omega (arith, c.requires.1.few, c.requires.1.some c.if-kind-eq-END.false)
 
 pub returns-then-kind-eq-ELSE : goal.returns-then-kind-eq-ELSE
 returns-then-kind-eq-ELSE c =
@@ -41,10 +41,10 @@ pub overflow_add-partners-then-kind-eq-REPEAT : goal.overflow_add-partners-then-
 overflow_add-partners-then-kind-eq-REPEAT c = omega (arith, c.requires.0)
 
 pub offset_bounds-partners-closer : goal.offset_bounds-partners-closer
-offset_bounds-partners-closer c =  omega (arith, c.requires.2.small (c.args.depth - 1))
+offset_bounds-partners-closer c = omega (arith, c.requires.2.small (c.args.depth - 1))
 
 pub bounds-partners-closer : goal.bounds-partners-closer
-bounds-partners-closer c =  omega (arith, c.requires.2.small (c.args.depth - 1))
+bounds-partners-closer c = omega (arith, c.requires.2.small (c.args.depth - 1))
 
 pub returns-then-kind-eq-REPEAT : goal.returns-then-kind-eq-REPEAT
 returns-then-kind-eq-REPEAT c =

@@ -1,10 +1,9 @@
 -- `walk_script` walks through the script as `script_walk` does. Each record keeps the loop invariant `Walking`. Each turn counts a step, except at the
 -- end of an if, which moves on to a later place.
-use Rattle.std.proofs.Common.{◌≡◌, ◌+◌, ◌≤◌, ◌<◌, false, ap, refl, sym, ◌∙◌, arith, drop, get_or, length, ⊎_elim}
+use Rattle.std.proofs.Common.{◌≡◌, false, ap, refl, sym, ◌∙◌, arith, drop, get_or, length, ⊎_elim}
 use Rattle.device.specs.Event.{apply_event}
 use Rattle.device.specs.Dispatch.{device_access}
 use Rattle.device.specs.declared.AccessResult.{AccessResult}
-use Rattle.script.specs.Records.{record_count}
 use Rattle.semantics.specs.World.{after_next_event}
 use Rattle.step.proofs.Events.{next_none, next_there}
 use Rattle.interpreter.specs.State.{log_full}
@@ -57,11 +56,11 @@ pub loop-steps-preserved-then-is_access : goal.loop-steps-preserved-then-is_acce
 loop-steps-preserved-then-is_access c =
     let few = (script_ready c.args.script.now c.requires.0).few in
     let arrived : c.if-taken-events.last.device
-        ≡ after_next_event c.loop-steps.last.device (drop c.loop-steps.position.taken c.args.events.now) =
+    ≡ after_next_event c.loop-steps.last.device (drop c.loop-steps.position.taken c.args.events.now) =
     elim c.if-taken-events.branch [
-      then-taken-events w ↦
-        ap (λ (r : AccessResult). r.device) w.last-is ∙ w.apply_event-last.ensures ∙ sym (next_there _ _ _ w.if-taken-events.true)
-    | else-taken-events w ↦ ap (λ (r : AccessResult). r.device) w.last-is ∙ sym (next_none _ _ _ w.if-taken-events.false)
+      | then-taken-events w ↦
+          ap (λ (r : AccessResult). r.device) w.last-is ∙ w.apply_event-last.ensures ∙ sym (next_there _ _ _ w.if-taken-events.true)
+      | else-taken-events w ↦ ap (λ (r : AccessResult). r.device) w.last-is ∙ sym (next_none _ _ _ w.if-taken-events.false)
     ] in
     let done = c.access-last.ensures ∙ ap (device_access _) c.access_of.ensures in
     accessed c.loop-steps.invariant c.read-r.result _ c.if-count-place.false few c.read-r.ensures refl c.loop-steps-test.true _

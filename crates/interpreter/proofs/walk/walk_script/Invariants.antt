@@ -1,20 +1,9 @@
 -- `walk_script` walks through the script as `script_walk` does. Each record keeps the loop invariant `Walking`. Each turn counts a step, except at the
 -- end of an if, which moves on to a later place.
-use Prim.Native.Nat.{◌+◌, ◌-◌, ◌*◌, ◌≤◌, ◌<◌}
-use mathlib.Core.Bool.{true, false}
-use mathlib.Core.Logic.{◌⊎◌, ⊎_elim}
-use mathlib.Core.Path.{◌≡◌, ap, sym, ◌∙◌}
-use native.Mathlib.Omega.{arith}
-use lib.ListN.{drop, get_or, length}
-use Rattle.device.specs.declared.AccessResult.{AccessResult}
-use Rattle.record.specs.declared.Record.{Record}
-use Rattle.script.specs.Records.{record_count}
-use Rattle.semantics.specs.World.{after_next_event}
-use Rattle.step.proofs.Events.{next_none, next_there}
-use Rattle.interpreter.specs.State.{is_access, log_full, pass_result}
+use Prim.Native.Nat.{◌+◌, ◌-◌, ◌*◌}
+use lib.ListN.{length}
 use Rattle.interpreter.specs.Walk.{script_walk}
-use Rattle.interpreter.proofs.Ready.{script_ready}
-use Rattle.interpreter.proofs.Walking.{Walking, full, pass_moves}
+use Rattle.interpreter.proofs.Walking.{Walking}
 use Rattle.interpreter.proofs.walk.walk_script.Given as goal
 
 abbrev pub invariant-loop-steps : goal.invariant-loop-steps
