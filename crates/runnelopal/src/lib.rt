@@ -1,5 +1,6 @@
 // The functions for programs in other languages. They take numbers and slices, and give an answer whatever these contain. C programs call them
-// through the inline functions of bindings/c/runnelopal.h, which also take null pointers for empty slices; hence `raw` in their names.
+// through the exports of `runnelopal_c` and the inline functions of bindings/c/runnelopal.h, which also take null pointers for empty slices; hence
+// `raw` in their names.
 #![tactic(auto)]
 
 pub mod answer;
@@ -37,8 +38,7 @@ use device::Device;
 use step::Sequencer;
 
 // Compiles a script into the image buffer.
-#[unsafe(no_mangle)]
-pub extern "C" fn runnelopal_raw_compile(script: &[u8], image: &mut [u8]) -> CompileAnswer
+pub fn runnelopal_raw_compile(script: &[u8], image: &mut [u8]) -> CompileAnswer
     ensures { (result ≡ exported_compile (compile_result script.now image.old)) × (image.new ≡ image_after script.now image.old) }
 {
     let r = compiler::compile(script, image);
@@ -50,8 +50,7 @@ pub extern "C" fn runnelopal_raw_compile(script: &[u8], image: &mut [u8]) -> Com
 }
 
 // Reads a text script into the record buffer.
-#[unsafe(no_mangle)]
-pub extern "C" fn runnelopal_raw_assemble(text: &[u8], records: &mut [u8]) -> AssembleAnswer
+pub fn runnelopal_raw_assemble(text: &[u8], records: &mut [u8]) -> AssembleAnswer
     ensures { (result ≡ exported_assemble (assemble_result text.now records.old)) × (records.new ≡ records_after text.now records.old) }
 {
     let r = assembler::assemble(text, records);
@@ -63,8 +62,7 @@ pub extern "C" fn runnelopal_raw_assemble(text: &[u8], records: &mut [u8]) -> As
 }
 
 // Writes the listing of a script to the text buffer.
-#[unsafe(no_mangle)]
-pub extern "C" fn runnelopal_raw_list(script: &[u8], text: &mut [u8]) -> ListAnswer
+pub fn runnelopal_raw_list(script: &[u8], text: &mut [u8]) -> ListAnswer
     ensures { (result ≡ exported_list (list_result script.now text.old)) × (text.new ≡ text_after script.now text.old) }
 {
     let r = lister::list(script, text);
@@ -76,8 +74,7 @@ pub extern "C" fn runnelopal_raw_list(script: &[u8], text: &mut [u8]) -> ListAns
 }
 
 // Runs an image from a saved device and a saved sequencer, and saves both after the run.
-#[unsafe(no_mangle)]
-pub extern "C" fn runnelopal_raw_run(
+pub fn runnelopal_raw_run(
     image: &[u8],
     device: &mut [u8],
     sequencer: &mut [u8],
@@ -91,8 +88,7 @@ pub extern "C" fn runnelopal_raw_run(
 }
 
 // Interprets a script on a saved device, without an image, and saves the device after it.
-#[unsafe(no_mangle)]
-pub extern "C" fn runnelopal_raw_interpret(
+pub fn runnelopal_raw_interpret(
     script: &[u8],
     device: &mut [u8],
     events: &[u32],
@@ -105,24 +101,21 @@ pub extern "C" fn runnelopal_raw_interpret(
 }
 
 // The owner of the port in an entry of the log.
-#[unsafe(no_mangle)]
-pub extern "C" fn runnelopal_entry_owner(entry: u64) -> u32
+pub fn runnelopal_entry_owner(entry: u64) -> u32
     ensures { result ≡ entry_owner entry }
 {
     log_entry::owner(entry)
 }
 
 // The value read in an entry of the log.
-#[unsafe(no_mangle)]
-pub extern "C" fn runnelopal_entry_value(entry: u64) -> u32
+pub fn runnelopal_entry_value(entry: u64) -> u32
     ensures { result ≡ entry_value entry }
 {
     log_entry::value(entry)
 }
 
 // Saves the fresh device. Refuses a slice that does not have the length of a saved device, with 11.
-#[unsafe(no_mangle)]
-pub extern "C" fn runnelopal_raw_fresh_device(device: &mut [u8]) -> u32
+pub fn runnelopal_raw_fresh_device(device: &mut [u8]) -> u32
     ensures { (result ≡ (deviceState.save_refusal device.old).number) × (device.new ≡ deviceState.saved fresh_device device.old) }
 {
     let fresh = Device::fresh();
@@ -131,8 +124,7 @@ pub extern "C" fn runnelopal_raw_fresh_device(device: &mut [u8]) -> u32
 }
 
 // Saves the fresh sequencer. Refuses a slice that does not have the length of a saved sequencer, with 11.
-#[unsafe(no_mangle)]
-pub extern "C" fn runnelopal_raw_fresh_sequencer(sequencer: &mut [u8]) -> u32
+pub fn runnelopal_raw_fresh_sequencer(sequencer: &mut [u8]) -> u32
     ensures { (result ≡ (sequencerState.save_refusal sequencer.old).number) × (sequencer.new ≡ sequencerState.saved fresh_sequencer sequencer.old) }
 {
     let fresh = Sequencer::fresh();
@@ -141,8 +133,7 @@ pub extern "C" fn runnelopal_raw_fresh_sequencer(sequencer: &mut [u8]) -> u32
 }
 
 // Whether the bytes are a device that is not refused with 11.
-#[unsafe(no_mangle)]
-pub extern "C" fn runnelopal_raw_valid_device(device: &[u8]) -> bool
+pub fn runnelopal_raw_valid_device(device: &[u8]) -> bool
     ensures { result ≡ valid_device device.now }
 {
     if state::holds_device(device) {
@@ -152,8 +143,7 @@ pub extern "C" fn runnelopal_raw_valid_device(device: &[u8]) -> bool
 }
 
 // Whether the bytes are a sequencer that is not refused with 11.
-#[unsafe(no_mangle)]
-pub extern "C" fn runnelopal_raw_valid_sequencer(sequencer: &[u8]) -> bool
+pub fn runnelopal_raw_valid_sequencer(sequencer: &[u8]) -> bool
     ensures { result ≡ valid_sequencer sequencer.now }
 {
     if sequencer_state::holds_sequencer(sequencer) {
@@ -163,8 +153,7 @@ pub extern "C" fn runnelopal_raw_valid_sequencer(sequencer: &[u8]) -> bool
 }
 
 // The outputs of a saved device.
-#[unsafe(no_mangle)]
-pub extern "C" fn runnelopal_raw_outputs(device: &[u8]) -> OutputsAnswer
+pub fn runnelopal_raw_outputs(device: &[u8]) -> OutputsAnswer
     ensures { result ≡ saved_outputs device.now }
 {
     if !runnelopal_raw_valid_device(device) {
@@ -175,8 +164,7 @@ pub extern "C" fn runnelopal_raw_outputs(device: &[u8]) -> OutputsAnswer
 }
 
 // The place and the counters of a saved sequencer.
-#[unsafe(no_mangle)]
-pub extern "C" fn runnelopal_raw_sequencer(sequencer: &[u8]) -> SequencerAnswer
+pub fn runnelopal_raw_sequencer(sequencer: &[u8]) -> SequencerAnswer
     ensures { result ≡ saved_sequencer_answer sequencer.now }
 {
     if !runnelopal_raw_valid_sequencer(sequencer) {
@@ -187,8 +175,7 @@ pub extern "C" fn runnelopal_raw_sequencer(sequencer: &[u8]) -> SequencerAnswer
 }
 
 // One access to a saved device.
-#[unsafe(no_mangle)]
-pub extern "C" fn runnelopal_raw_access(
+pub fn runnelopal_raw_access(
     device: &mut [u8],
     write: bool,
     width: u32,
@@ -207,8 +194,7 @@ pub extern "C" fn runnelopal_raw_access(
 }
 
 // One event on a saved device.
-#[unsafe(no_mangle)]
-pub extern "C" fn runnelopal_raw_event(device: &mut [u8], number: u32) -> OutputsAnswer
+pub fn runnelopal_raw_event(device: &mut [u8], number: u32) -> OutputsAnswer
     ensures { (result ≡ exported_event (saved_event device.old number)) × (device.new ≡ bytes_after_event device.old number) }
 {
     answer::exported_event(state::call::event(device, number))

@@ -1,0 +1,170 @@
+// The exports for C. Each calls the function of the same name in `runnelopal` and promises the same; a crate is a library for Rattle or for other
+// languages, not both. C programs call them through the inline functions of bindings/c/runnelopal.h.
+#![tactic(auto)]
+
+ghost use Rattle.std.specs.Prelude.{◌≡◌};
+ghost use Rattle.assembler.specs.Assemble.{assemble_result, records_after};
+ghost use Rattle.compiler.specs.Compile.{compile_result, image_after};
+ghost use Rattle.device.specs.Device.{fresh_device};
+ghost use Rattle.lister.specs.Listing.{list_result, text_after};
+ghost use Rattle.log_entry.specs.Entry.{entry_owner, entry_value};
+ghost use Rattle.sequencer_state.specs.State as sequencerState;
+ghost use Rattle.state.specs.Call.{saved_access, bytes_after_access, saved_event, bytes_after_event};
+ghost use Rattle.state.specs.State as deviceState;
+ghost use Rattle.step.specs.Sequencer.{fresh_sequencer};
+ghost use Rattle.runnelopal.specs.Answers.{exported_access, exported_assemble, exported_compile, exported_event, exported_list};
+ghost use Rattle.runnelopal.specs.Calls.{
+  access_of,
+  after_interpret,
+  after_run,
+  saved_interpret,
+  saved_outputs,
+  saved_run,
+  saved_sequencer_answer,
+  valid_device,
+  valid_sequencer,
+};
+
+use runnelopal::answer::{
+    AccessAnswer, AssembleAnswer, CompileAnswer, ListAnswer, OutputsAnswer, RunAnswer,
+    SequencerAnswer,
+};
+
+// Compiles a script into the image buffer.
+#[unsafe(no_mangle)]
+pub extern "C" fn runnelopal_raw_compile(script: &[u8], image: &mut [u8]) -> CompileAnswer
+    ensures { (result ≡ exported_compile (compile_result script.now image.old)) × (image.new ≡ image_after script.now image.old) }
+{
+    runnelopal::runnelopal_raw_compile(script, image)
+}
+
+// Reads a text script into the record buffer.
+#[unsafe(no_mangle)]
+pub extern "C" fn runnelopal_raw_assemble(text: &[u8], records: &mut [u8]) -> AssembleAnswer
+    ensures { (result ≡ exported_assemble (assemble_result text.now records.old)) × (records.new ≡ records_after text.now records.old) }
+{
+    runnelopal::runnelopal_raw_assemble(text, records)
+}
+
+// Writes the listing of a script to the text buffer.
+#[unsafe(no_mangle)]
+pub extern "C" fn runnelopal_raw_list(script: &[u8], text: &mut [u8]) -> ListAnswer
+    ensures { (result ≡ exported_list (list_result script.now text.old)) × (text.new ≡ text_after script.now text.old) }
+{
+    runnelopal::runnelopal_raw_list(script, text)
+}
+
+// Runs an image from a saved device and a saved sequencer, and saves both after the run.
+#[unsafe(no_mangle)]
+pub extern "C" fn runnelopal_raw_run(
+    image: &[u8],
+    device: &mut [u8],
+    sequencer: &mut [u8],
+    events: &[u32],
+    budget: u32,
+    log: &mut [u64],
+) -> RunAnswer
+    ensures { after_run result device.new sequencer.new log.new ≡ saved_run image.now device.old sequencer.old events.now budget log.old }
+{
+    runnelopal::runnelopal_raw_run(image, device, sequencer, events, budget, log)
+}
+
+// Interprets a script on a saved device, without an image, and saves the device after it.
+#[unsafe(no_mangle)]
+pub extern "C" fn runnelopal_raw_interpret(
+    script: &[u8],
+    device: &mut [u8],
+    events: &[u32],
+    budget: u32,
+    log: &mut [u64],
+) -> RunAnswer
+    ensures { after_interpret result device.new log.new ≡ saved_interpret script.now device.old events.now budget log.old }
+{
+    runnelopal::runnelopal_raw_interpret(script, device, events, budget, log)
+}
+
+// The owner of the port in an entry of the log.
+#[unsafe(no_mangle)]
+pub extern "C" fn runnelopal_entry_owner(entry: u64) -> u32
+    ensures { result ≡ entry_owner entry }
+{
+    runnelopal::runnelopal_entry_owner(entry)
+}
+
+// The value read in an entry of the log.
+#[unsafe(no_mangle)]
+pub extern "C" fn runnelopal_entry_value(entry: u64) -> u32
+    ensures { result ≡ entry_value entry }
+{
+    runnelopal::runnelopal_entry_value(entry)
+}
+
+// Saves the fresh device. Refuses a slice that does not have the length of a saved device, with 11.
+#[unsafe(no_mangle)]
+pub extern "C" fn runnelopal_raw_fresh_device(device: &mut [u8]) -> u32
+    ensures { (result ≡ (deviceState.save_refusal device.old).number) × (device.new ≡ deviceState.saved fresh_device device.old) }
+{
+    runnelopal::runnelopal_raw_fresh_device(device)
+}
+
+// Saves the fresh sequencer. Refuses a slice that does not have the length of a saved sequencer, with 11.
+#[unsafe(no_mangle)]
+pub extern "C" fn runnelopal_raw_fresh_sequencer(sequencer: &mut [u8]) -> u32
+    ensures { (result ≡ (sequencerState.save_refusal sequencer.old).number) × (sequencer.new ≡ sequencerState.saved fresh_sequencer sequencer.old) }
+{
+    runnelopal::runnelopal_raw_fresh_sequencer(sequencer)
+}
+
+// Whether the bytes are a device that is not refused with 11.
+#[unsafe(no_mangle)]
+pub extern "C" fn runnelopal_raw_valid_device(device: &[u8]) -> bool
+    ensures { result ≡ valid_device device.now }
+{
+    runnelopal::runnelopal_raw_valid_device(device)
+}
+
+// Whether the bytes are a sequencer that is not refused with 11.
+#[unsafe(no_mangle)]
+pub extern "C" fn runnelopal_raw_valid_sequencer(sequencer: &[u8]) -> bool
+    ensures { result ≡ valid_sequencer sequencer.now }
+{
+    runnelopal::runnelopal_raw_valid_sequencer(sequencer)
+}
+
+// The outputs of a saved device.
+#[unsafe(no_mangle)]
+pub extern "C" fn runnelopal_raw_outputs(device: &[u8]) -> OutputsAnswer
+    ensures { result ≡ saved_outputs device.now }
+{
+    runnelopal::runnelopal_raw_outputs(device)
+}
+
+// The place and the counters of a saved sequencer.
+#[unsafe(no_mangle)]
+pub extern "C" fn runnelopal_raw_sequencer(sequencer: &[u8]) -> SequencerAnswer
+    ensures { result ≡ saved_sequencer_answer sequencer.now }
+{
+    runnelopal::runnelopal_raw_sequencer(sequencer)
+}
+
+// One access to a saved device.
+#[unsafe(no_mangle)]
+pub extern "C" fn runnelopal_raw_access(
+    device: &mut [u8],
+    write: bool,
+    width: u32,
+    port: u32,
+    value: u32,
+) -> AccessAnswer
+    ensures { (result ≡ exported_access (saved_access device.old (access_of write width port value))) × (device.new ≡ bytes_after_access device.old (access_of write width port value)) }
+{
+    runnelopal::runnelopal_raw_access(device, write, width, port, value)
+}
+
+// One event on a saved device.
+#[unsafe(no_mangle)]
+pub extern "C" fn runnelopal_raw_event(device: &mut [u8], number: u32) -> OutputsAnswer
+    ensures { (result ≡ exported_event (saved_event device.old number)) × (device.new ≡ bytes_after_event device.old number) }
+{
+    runnelopal::runnelopal_raw_event(device, number)
+}
