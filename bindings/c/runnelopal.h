@@ -1,7 +1,7 @@
 /* Runnelopal from C: reads, lists, compiles or interprets board setup scripts, runs them on a model of the chip, and makes single register
  * accesses.
  *
- * Link with target/staticlib/librunnelopal.a, which `rt staticlib runnelopal` builds. docs/CHIP.md describes the chip, its registers,
+ * Link with target/staticlib/librunnelopal.a, which `.ci/build runnelopal` builds. docs/CHIP.md describes the chip, its registers,
  * scripts, images and events; docs/TEXT.md describes text scripts and listings; docs/STATE.md has the layouts of a saved device and of a
  * saved sequencer. The header is C99 and C++11. Complete programs: bindings/c/text.c (a text script), example.c (a whole run), resume.c (a
  * run in parts), single_step.c (word by word).

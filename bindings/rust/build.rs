@@ -1,4 +1,4 @@
-//! Links target/staticlib/librunnelopal.a, which `rt staticlib runnelopal` builds.
+//! Links target/staticlib/librunnelopal.a, which `.ci/build runnelopal` builds.
 use std::path::Path;
 
 fn main() {

@@ -1,7 +1,7 @@
 //! Runnelopal from Rust: reads, lists, compiles or interprets board setup scripts, runs them on a model of the chip, and makes single register
 //! accesses.
 //!
-//! These are safe wrappers of the functions in `target/staticlib/librunnelopal.a`, which `rt staticlib runnelopal` builds. The functions
+//! These are safe wrappers of the functions in `target/staticlib/librunnelopal.a`, which `.ci/build runnelopal` builds. The functions
 //! have no preconditions: every byte and number is a valid argument, and a call that cannot do what it is asked to do returns a
 //! [`Refusal`], or a [`TextRefusal`]. `docs/CHIP.md` describes the chip, its registers, scripts, images and events; `docs/TEXT.md` describes
 //! text scripts and listings; `docs/STATE.md` has the layouts of a saved device and of a saved sequencer.
