@@ -1,8 +1,8 @@
 -- A run does not depend on what was logged and accessed before it. So a run that starts with entries and accesses in front makes the same steps as
 -- one that starts with none, if its log has as much room left; its entries and accesses follow those in front.
-use Prim.Native.Nat.{ℕ, zero, suc, ◌+◌, ◌-◌, ◌≤◌, ◌<◌}
+use Prim.Native.Nat.{ℕ, zero, suc, ◌+◌, ◌-◌, ◌≤◌}
 use mathlib.Core.Path.{◌≡◌, refl, ap, sym, ◌∙◌}
-use mathlib.Core.Bool.{Bool, true, false, cond, not, ◌&&◌}
+use mathlib.Core.Bool.{Bool, true, false, cond}
 use mathlib.Core.List.{List, [], ◌∷◌, ◌++◌, append_assoc, append-nil}
 use native.Mathlib.Decide.{dec_le}
 use native.Mathlib.Omega.{arith}
@@ -12,7 +12,7 @@ use lib.ListN.{length, length-append}
 use Rattle.access.specs.declared.Access.{Access}
 use Rattle.record.specs.WordKind as word_kind
 use Rattle.record.specs.declared.Record.{Record}
-use Rattle.script.specs.Refusals.{innermost, outer}
+use Rattle.script.specs.Refusals.{innermost}
 use Rattle.semantics.specs.World.{
   AccessEntry,
   World,

@@ -1,13 +1,13 @@
 -- Resuming a run adds to it. The whole run is the first one and then b more steps from where that stopped (`run_in_two`). The second call makes
 -- the same steps: it is not refused, it starts from the same place, counters, device and events, and its log has the room that was left
 -- (`second_start`). Its entries and accesses follow those of the first run (`run_after`).
-use Prim.Native.Nat.{ℕ, zero, suc, ◌+◌, ◌-◌, ◌≤◌, ◌<◌}
+use Prim.Native.Nat.{ℕ, zero, suc, ◌+◌, ◌-◌, ◌≤◌}
 use mathlib.Core.Path.{◌≡◌, refl, ap, sym, ◌∙◌}
-use mathlib.Core.Bool.{Bool, true, false, cond, not, ◌&&◌}
-use mathlib.Core.List.{List, [], ◌∷◌, ◌++◌, append_assoc, append-nil}
+use mathlib.Core.Bool.{Bool, true, false, cond}
+use mathlib.Core.List.{List, [], ◌∷◌, ◌++◌, append_assoc}
 use native.Mathlib.Decide.{ℕ_discrete}
 use native.Mathlib.Omega.{arith}
-use borrow.Author.Tests.{eq-eqb, eqb-true, le-ltb, ltb-false, ne_eqb}
+use borrow.Author.Tests.{eq-eqb, le-ltb, ltb-false, ne_eqb}
 use lib.Dec.{eqb, ltb}
 use lib.ListN.{drop, length, length-append, length-drop, take}
 use lib.Seq.{drop-drop}
@@ -17,11 +17,10 @@ use Rattle.device.specs.declared.Device.{Device}
 use Rattle.mask.proofs.Branch.{branch}
 use Rattle.outcome.specs.Refusal.{refusal}
 use Rattle.outcome.specs.declared.Refusal.{Refusal}
-use Rattle.record.specs.declared.Record.{Record}
 use Rattle.script.specs.Refusals.{innermost}
 use Rattle.semantics.proofs.Events.{OneEach, after_delay_one, after_test_one, after_write_one, read_one}
-use Rattle.semantics.specs.World.{AccessEntry, World, start_world}
-use Rattle.sequencer.proofs.Answers.{Allowed, allowed}
+use Rattle.semantics.specs.World.{World, start_world}
+use Rattle.sequencer.proofs.Answers.{allowed}
 use Rattle.sequencer.proofs.Range.{Keeps, never_logs_beyond, run_from_keeps, run_in_range, run_in_two, step_not_19}
 use Rattle.sequencer.specs.Run.{
   RunEnd,
@@ -37,7 +36,6 @@ use Rattle.sequencer.specs.Run.{
   run_refusal,
   run_result,
 }
-use Rattle.sequencer.specs.declared.RunResult.{RunResult}
 use Rattle.step.proofs.CounterArray.{counters_back}
 use Rattle.step.specs.Sequencer.{counters_of, sequencer_at, sequencer_in_range}
 use Rattle.step.specs.Step.{Machine, Step, continues, execute, faults, halts, log_filled, machine, next_step}

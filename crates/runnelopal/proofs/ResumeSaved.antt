@@ -3,26 +3,25 @@
 use Prim.Native.Nat.{ℕ, ◌+◌}
 use mathlib.Core.Path.{◌≡◌, refl, ap, sym, ◌∙◌}
 use mathlib.Core.Bool.{Bool, true, false, cond, ◌&&◌}
-use mathlib.Core.List.{List, ◌++◌}
+use mathlib.Core.List.{List}
 use native.Mathlib.Omega.{arith}
 use borrow.Author.Tests.{eq-eqb}
-use lib.Dec.{eqb}
-use lib.ListN.{drop, length, take}
+use lib.ListN.{drop, length}
 use Rattle.correct.proofs.ResumeCorrect.{not_refused, resume_correct}
 use Rattle.correct.specs.ResumeCorrect.{AddUp}
 use Rattle.device.specs.declared.Device.{Device}
 use Rattle.mask.proofs.Every.{and_left, and_right}
 use Rattle.outcome.specs.Refusal.{refusal}
 use Rattle.sequencer.proofs.Endings.{image_run_ends}
-use Rattle.sequencer.specs.Run.{bad_image, image_run, is_refusal, log_after, run_answer, run_refusal}
+use Rattle.sequencer.specs.Run.{bad_image, is_refusal, log_after, run_answer, run_refusal}
 use Rattle.sequencer.specs.declared.RunResult.{RunResult}
-use Rattle.sequencer_state.specs.State.{holds_sequencer, saved as sequencer_saved, sequencer_bytes, sequencer_from, sequencer_size}
+use Rattle.sequencer_state.specs.State.{holds_sequencer, saved as sequencer_saved, sequencer_bytes, sequencer_from}
 use Rattle.state.proofs.RoundTrip.{state_length, state_saved}
 use Rattle.state.proofs.Slices.{holds_length, holds_saved}
-use Rattle.state.specs.State.{device_from, holds_device, is_saved, saved as device_saved, state_bytes, state_size}
+use Rattle.state.specs.State.{device_from, holds_device, saved as device_saved, state_bytes, state_size}
 use Rattle.step.specs.declared.Sequencer.{Sequencer}
-use Rattle.runnelopal.specs.Answers.{exported_run, levels_unless_refused, refused_answer}
-use Rattle.runnelopal.specs.Calls.{AfterRun, after_run, device_after, held_run, ran_from, saved_run, sequencer_after, unheld_refusal}
+use Rattle.runnelopal.specs.Answers.{exported_run, refused_answer}
+use Rattle.runnelopal.specs.Calls.{AfterRun, after_run, held_run, ran_from, saved_run, unheld_refusal}
 use Rattle.runnelopal.specs.ResumeSaved.{LoadsBack, ResumeSaved, SavedAddUp}
 
 -- ---- the bytes of a device and of a sequencer hold them

@@ -1,30 +1,30 @@
 -- The exported calls on saved bytes, one law for each return of the code: bytes that hold no device or no sequencer are refused, and a run from the
 -- device and the sequencer that they hold leaves what `held_run` says.
 use Prim.Native.Nat.{ℕ}
-use mathlib.Core.Path.{◌≡◌, refl, ap, sym, ◌∙◌}
-use mathlib.Core.Bool.{Bool, true, false, cond, not, ◌&&◌}
+use mathlib.Core.Path.{◌≡◌, ap, ◌∙◌}
+use mathlib.Core.Bool.{Bool, true, false, not}
 use mathlib.Core.List.{List}
 use borrow.Author.Tests.{eq-eqb, ne_eqb, not-false, not-true}
 use lib.Dec.{eqb}
-use Rattle.device.specs.Device.{device_in_range, fresh_device, outputs_of}
+use Rattle.device.specs.Device.{device_in_range}
 use Rattle.device.specs.declared.Device.{Device}
 use Rattle.interpreter.specs.Interpret.{interpret_log, interpret_result}
 use Rattle.interpreter.specs.declared.InterpretResult.{InterpretResult}
-use Rattle.mask.proofs.Every.{and_left, and_right}
+use Rattle.mask.proofs.Every.{and_left}
 use Rattle.outcome.specs.Refusal.{refusal}
 use Rattle.outcome.specs.declared.Refusal.{Refusal}
 use Rattle.script.specs.Refusals.{script_refusal}
 use Rattle.script.specs.Scan.{script_scan}
 use Rattle.script.specs.declared.ScanResult.{ScanResult}
-use Rattle.sequencer.specs.Run.{bad_image, is_refusal, log_after, run_answer}
+use Rattle.sequencer.specs.Run.{log_after, run_answer}
 use Rattle.sequencer.specs.declared.RunResult.{RunResult}
 use Rattle.sequencer_state.proofs.Slices.{loaded_or as sequencer-loaded-or}
-use Rattle.sequencer_state.specs.State.{holds_sequencer, loaded as sequencer_loaded, saved as sequencer_saved, sequencer_from, sequencer_or}
+use Rattle.sequencer_state.specs.State.{holds_sequencer, loaded as sequencer_loaded, sequencer_from, sequencer_or}
 use Rattle.state.proofs.Slices.{loaded_or}
-use Rattle.state.specs.State.{device_from, device_or, holds_device, loaded, saved as device_saved}
-use Rattle.step.specs.Sequencer.{fresh_sequencer, sequencer_in_range}
+use Rattle.state.specs.State.{device_from, device_or, holds_device, loaded}
+use Rattle.step.specs.Sequencer.{sequencer_in_range}
 use Rattle.step.specs.declared.Sequencer.{Sequencer}
-use Rattle.runnelopal.specs.Answers.{exported_interpret, levels, levels_unless_refused, refused_answer, exported_run}
+use Rattle.runnelopal.specs.Answers.{exported_interpret, refused_answer, exported_run}
 use Rattle.runnelopal.specs.Calls.{
   after_interpret,
   after_run,

@@ -1,5 +1,5 @@
 -- The answers of the exported functions: structs with the numbers of a result. See bindings/c/runnelopal.h.
-use Rattle.std.specs.Prelude.{ℕ, ◌%◌, Bool, false, cond, replicate}
+use Rattle.std.specs.Prelude.{ℕ, ◌%◌, cond, replicate}
 use Rattle.assembler.specs.declared.AssembleResult.{AssembleResult}
 use Rattle.compiler.specs.declared.CompileResult.{CompileResult}
 use Rattle.device.specs.Device.{outputs_of}

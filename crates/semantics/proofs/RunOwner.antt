@@ -1,7 +1,7 @@
 -- The owner that a run lists with each access and logs with each value: the first block that claims the port when the access is made, after
 -- the next event. Both runs of a script use these definitions, so the theorem about them does not show this.
 use Prim.Native.Nat.{ℕ, ◌<◌}
-use mathlib.Core.Path.{◌≡◌, ap, ◌∙◌}
+use mathlib.Core.Path.{◌≡◌, ◌∙◌}
 use mathlib.Core.List.{List, [], ◌∷◌, ◌++◌}
 use Rattle.access.specs.declared.Access.{Access}
 use Rattle.device.proofs.NamedOwner.{names_owner}
@@ -9,17 +9,7 @@ use Rattle.device.specs.Device.{outputs_of}
 use Rattle.device.specs.Owner.{owner}
 use Rattle.log_entry.proofs.EntryParts.{owner_back, value_back}
 use Rattle.log_entry.specs.Entry.{entry_owner, entry_value, log_entry, value_count}
-use Rattle.semantics.specs.World.{
-  AccessEntry,
-  World,
-  after_access,
-  after_next_event,
-  after_read,
-  answer_to,
-  entry_logged,
-  read_of,
-  value_read,
-}
+use Rattle.semantics.specs.World.{World, after_access, after_next_event, after_read, answer_to, entry_logged, read_of, value_read}
 
 -- the owner of a port, after the next event
 abbrev pub owner_now : World → ℕ → ℕ

@@ -1,5 +1,5 @@
 -- `digits::byte` returns what `byte_at` defines: two digits, or 256 if one of the two is missing.
-use Rattle.std.proofs.Common.{◌≡◌, ◌+◌, ◌%◌, ◌^◌, sym, ap, ◌∙◌, ⊎_elim, arith, eqb-true}
+use Rattle.std.proofs.Common.{◌≡◌, ◌+◌, ◌%◌, ◌^◌, sym, ap, ◌∙◌, ⊎_elim, arith}
 use borrow.Author.Tests.{eqb-false}
 use Rattle.digits.specs.Read.{digit_at, no_digit}
 use Rattle.digits.proofs.Read.{digit_inside, no_high, no_low, two_digits}

@@ -1,6 +1,6 @@
 -- `digits::number` returns what `number_at` defines. At each turn of the loop, the digits that were read and those that are left
 -- make up the number. The index does not wrap, because a digit lies within the line.
-use Rattle.std.proofs.Common.{◌≡◌, ◌+◌, ◌-◌, ◌%◌, ◌^◌, ◌&&◌, ltb, [], sym, ap, ◌∙◌, ⊎_elim, arith, le-ltb, lt-ltb}
+use Rattle.std.proofs.Common.{◌≡◌, ◌+◌, ◌%◌, ◌^◌, ◌&&◌, ltb, [], sym, ap, ◌∙◌, arith, le-ltb, lt-ltb}
 use Rattle.digits.specs.Read.{digit_at, no_digit}
 use Rattle.digits.proofs.Read.{digit_inside}
 use Rattle.digits.proofs.ReadLoop.{after_last_lem, after_nine, all_read, at_start, left, one_more}
@@ -31,13 +31,13 @@ returns c =
     let index : (a.at + l.count) % 2 ^ 64 ≡ a.at + l.count = omega arith in
     let end : left line a.at l.count ≡ [] =
     elim c.loop-count-test.branch [
-      else-loop-count-test w ↦ after_nine line a.at l.count w.loop-count-test.false
-    | then-loop-count-test+then-d-eq-NO_DIGIT w ↦
-        after_last_lem line a.at l.count (sym (w.digit_at-d.ensures ∙ ap (digit_at line) (w.after.ensures ∙ index)) ∙ w.if-d-eq-NO_DIGIT.true)
+      | else-loop-count-test w ↦ after_nine line a.at l.count w.loop-count-test.false
+      | then-loop-count-test+then-d-eq-NO_DIGIT w ↦
+          after_last_lem line a.at l.count (sym (w.digit_at-d.ensures ∙ ap (digit_at line) (w.after.ensures ∙ index)) ∙ w.if-d-eq-NO_DIGIT.true)
     ] in
     let ok : c.if-count-gt0.result ≡ (ltb 0 l.count && ltb l.count 9) =
     elim c.if-count-gt0.branch [
-      then-count-gt0 w ↦ w.result-is ∙ rw (lt-ltb 0 l.count w.if-count-gt0.true)
-    | else-count-gt0 w ↦ w.result-is ∙ rw (le-ltb 0 l.count w.if-count-gt0.false)
+      | then-count-gt0 w ↦ w.result-is ∙ rw (lt-ltb 0 l.count w.if-count-gt0.true)
+      | else-count-gt0 w ↦ w.result-is ∙ rw (le-ltb 0 l.count w.if-count-gt0.false)
     ] in
     rw (ok, c.after-2.ensures, index) (all_read line a.at l.value l.count l.invariant.1.1.1 l.invariant.1.1.0 end)

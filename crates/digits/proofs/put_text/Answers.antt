@@ -1,5 +1,5 @@
 -- `digits::put_text` writes the text. At each turn of the loop, writing the rest of the text to the line completes it.
-use Rattle.std.proofs.Common.{◌≡◌, ℕ, suc, ◌-◌, List, length, drop, sym, refl, ap, ◌∙◌, add-one, arith, drop_of_length-le, drop-cons, rules}
+use Rattle.std.proofs.Common.{ℕ, suc, List, drop, sym, refl, ap, ◌∙◌, add-one, arith, drop_of_length-le, drop-cons, rules}
 use Rattle.digits.specs.Text.{line_at, puts}
 use Rattle.digits.proofs.put_text.Goals as goal
 

@@ -1,5 +1,5 @@
 -- `digits::put_text` writes the text. At each turn of the loop, writing the rest of the text to the line completes it.
-use Rattle.std.proofs.Common.{◌≡◌, ℕ, ◌-◌, ◌≤◌, List, length, drop, sym, ap, ◌∙◌, drop_of_length-le}
+use Rattle.std.proofs.Common.{◌≡◌, ◌-◌, ◌≤◌, length, drop}
 use Rattle.digits.specs.Text.{line_at, puts}
 use Rattle.digits.proofs.put_text.Given as goal
 

@@ -1,5 +1,5 @@
 -- `put` copies the part to its index. The loop invariant: the first `k` bytes of the part have been copied.
-use Prim.Native.Nat.{ℕ, ◌+◌, ◌-◌}
+use Prim.Native.Nat.{ℕ, ◌+◌}
 use mathlib.Core.Path.{◌≡◌, ap, sym, ◌∙◌}
 use mathlib.Core.List.{List}
 use lib.ListN.{get_or, length, length-set, set}

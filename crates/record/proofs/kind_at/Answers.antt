@@ -1,7 +1,5 @@
 -- `record::kind_at` returns the kind of `record_at`, which is the byte at offset 2.
-use Prim.Native.Nat.{◌+◌}
 use mathlib.Core.Path.{refl}
-use native.Mathlib.Omega.{arith}
 use Rattle.record.specs.Record.{record_at}
 use Rattle.record.proofs.kind_at.Goals as goal
 

@@ -1,6 +1,4 @@
 -- `record::read` returns what `record_at` defines: each field is read at its offset.
-use Prim.Native.Nat.{◌+◌}
-use native.Mathlib.Omega.{arith}
 use Rattle.record.specs.Record.{record_at}
 use Rattle.record.proofs.read.Goals as goal
 
