@@ -6,8 +6,7 @@ use mathlib.Core.Path.{◌≡◌, refl}
 use mathlib.Core.Bool.{Bool, true, false}
 use native.Mathlib.Omega.{arith}
 use Rattle.access.specs.Block.{Result, with_block, status}
-use Rattle.access.specs.Status.{done, is_status}
-use Rattle.access.specs.declared.Answer.{Answer}
+use Rattle.access.specs.Status.{Answer, done, is_status}
 
 -- the status of the answer is one of those in the table
 abbrev pub StatusInTable : Answer → Type 0

@@ -4,7 +4,14 @@
 -- 3 is retired. A later request: "remove it from the table and from every caller; its number isn't used again"
 use Rattle.std.specs.Prelude.{ℕ, Bool, cond, ◌||◌, eqb}
 use Rattle.width.specs.Width.{all_ones}
-use Rattle.access.specs.declared.Answer.{Answer}
+use Rattle.access.specs.declared.Answer as code
+use Rattle.access.specs.declared.Status.{Status}
+use Rattle.access.specs.declared.Status.TheVariants.{Done, Unclaimed, Blocked, Absent, Ignored}
+
+-- the status is one of the numbers above
+pub record Answer : Type 0 where
+  pub status : ℕ
+  pub value : ℕ
 
 -- the statuses above; every access to every device has one of them (`access_status` in the proofs of `device`)
 abbrev pub is_status : ℕ → Bool
@@ -20,3 +27,14 @@ status_only s = record { status = s; value = 0 }
 -- "Read gives": the value at status 0, "all ones of the width" at status 1, otherwise 0
 unfoldable pub read_value : ℕ → ℕ → ℕ → ℕ
 read_value status width value = cond (eqb status 0) value (cond (eqb status 1) (all_ones width) 0)
+
+-- ---- the answers of the code, in the numbers of the table
+abbrev pub status_number : Status → ℕ
+status_number Done = 0
+status_number Unclaimed = 1
+status_number Blocked = 2
+status_number Absent = 4
+status_number Ignored = 5
+
+abbrev pub answer_of : code.Answer → Answer
+answer_of a = record { status = status_number a.status; value = a.value }

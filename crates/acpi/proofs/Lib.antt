@@ -1,3 +1,4 @@
+pub mod Flags
 pub mod Legal
 pub mod Orderly
 pub mod Range

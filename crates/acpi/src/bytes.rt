@@ -1,55 +1,43 @@
 // The ACPI block as 45 bytes, and back. `state` calls it. See docs/STATE.md.
-ghost use Rattle.std.specs.Prelude.{◌≡◌, ◌+◌, ◌<◌, length};
-ghost use Rattle.little_endian.specs.Bytes.{two_at, four_at};
-ghost use Rattle.acpi.specs.Saved.{acpi_bytes, acpi_from, acpi_saved, acpi_size, maps_from, levels_from};
+ghost use Rattle.std.specs.Prelude.{◌≡◌, length, nat_lt};
+ghost use Rattle.std.specs.List.{list_all};
+ghost use Rattle.acpi.specs.Saved.{acpi_bytes, acpi_from, acpi_saved, acpi_size, map_bytes, level_bytes, maps_from, levels_from};
 
 use crate::Acpi;
+use little_endian::{four_at, two_at};
+use std::array;
 
-fn two_at(bytes: &[u8], at: usize) -> u16
-    requires bytes_len { length bytes.now ≡ acpi_size }
-    requires at_bound { at + 1 < acpi_size }
-    ensures { result ≡ two_at bytes.now at }
+fn map_bytes(maps: [u16; 8]) -> [u8; 16]
+    ensures { result ≡ map_bytes 8 0 maps }
 {
-    little_endian::two(bytes[at], bytes[at + 1])
+    array::from_fn(|k| maps[k / 2].to_le_bytes()[k % 2])
 }
 
-fn timer_from(bytes: &[u8]) -> u32
-    requires { length bytes.now ≡ acpi_size }
-    ensures { result ≡ four_at bytes.now 33 }
+fn level_bytes(levels: [bool; 8]) -> [u8; 8]
+    ensures { result ≡ level_bytes 8 0 levels }
 {
-    little_endian::four(bytes[33], bytes[34], bytes[35], bytes[36])
+    array::from_fn(|pin| u8::from(levels[pin]))
 }
 
+// The bytes are a slice, not an array, here and below: `state` cuts them out of a slice, and a cut is a slice.
 fn maps_from(bytes: &[u8]) -> [u16; 8]
     requires { length bytes.now ≡ acpi_size }
     ensures { result ≡ maps_from 8 16 bytes.now }
 {
-    [
-        two_at(bytes, 16),
-        two_at(bytes, 18),
-        two_at(bytes, 20),
-        two_at(bytes, 22),
-        two_at(bytes, 24),
-        two_at(bytes, 26),
-        two_at(bytes, 28),
-        two_at(bytes, 30),
-    ]
+    array::from_fn(|pin| two_at(bytes, 16 + 2 * pin))
 }
 
 fn levels_from(bytes: &[u8]) -> [bool; 8]
     requires { length bytes.now ≡ acpi_size }
     ensures { result ≡ levels_from 8 37 bytes.now }
 {
-    [
-        bytes[37] == 1,
-        bytes[38] == 1,
-        bytes[39] == 1,
-        bytes[40] == 1,
-        bytes[41] == 1,
-        bytes[42] == 1,
-        bytes[43] == 1,
-        bytes[44] == 1,
-    ]
+    array::from_fn(|pin| bytes[37 + pin] == 1)
+}
+
+fn are_flags(bytes: &[u8]) -> bool
+    ensures { result ≡ list_all (λ b. nat_lt b 2) bytes.now }
+{
+    bytes.iter().all(|b| *b < 2)
 }
 
 impl Acpi {
@@ -58,62 +46,22 @@ impl Acpi {
     pub fn to_bytes(self) -> [u8; Acpi::SIZE]
         ensures { result ≡ acpi_bytes self }
     {
-        let maps = self.maps;
-        let map0 = maps[0];
-        let map1 = maps[1];
-        let map2 = maps[2];
-        let map3 = maps[3];
-        let map4 = maps[4];
-        let map5 = maps[5];
-        let map6 = maps[6];
-        let map7 = maps[7];
-        [
-            self.pcnt,
-            self.cpu,
-            self.scien as u8,
-            (self.pm1sts % 256) as u8,
-            (self.pm1sts / 256 % 256) as u8,
-            (self.pm1en % 256) as u8,
-            (self.pm1en / 256 % 256) as u8,
-            (self.pm1cnt % 256) as u8,
-            (self.pm1cnt / 256 % 256) as u8,
-            self.sleeping as u8,
-            (self.setupidx % 256) as u8,
-            (self.setupidx / 256 % 256) as u8,
-            (self.gpe0sts % 256) as u8,
-            (self.gpe0sts / 256 % 256) as u8,
-            (self.gpe0en % 256) as u8,
-            (self.gpe0en / 256 % 256) as u8,
-            (map0 % 256) as u8,
-            (map0 / 256 % 256) as u8,
-            (map1 % 256) as u8,
-            (map1 / 256 % 256) as u8,
-            (map2 % 256) as u8,
-            (map2 / 256 % 256) as u8,
-            (map3 % 256) as u8,
-            (map3 / 256 % 256) as u8,
-            (map4 % 256) as u8,
-            (map4 / 256 % 256) as u8,
-            (map5 % 256) as u8,
-            (map5 / 256 % 256) as u8,
-            (map6 % 256) as u8,
-            (map6 / 256 % 256) as u8,
-            (map7 % 256) as u8,
-            (map7 / 256 % 256) as u8,
-            self.irq,
-            (self.timer % 256) as u8,
-            (self.timer / 256 % 256) as u8,
-            (self.timer / 256 / 256 % 256) as u8,
-            (self.timer / 256 / 256 / 256 % 256) as u8,
-            self.levels[0] as u8,
-            self.levels[1] as u8,
-            self.levels[2] as u8,
-            self.levels[3] as u8,
-            self.levels[4] as u8,
-            self.levels[5] as u8,
-            self.levels[6] as u8,
-            self.levels[7] as u8,
-        ]
+        let mut bytes = [0; Acpi::SIZE];
+        bytes[0] = self.pcnt;
+        bytes[1] = self.cpu;
+        bytes[2] = u8::from(self.scien);
+        bytes[3..5].copy_from_slice(&self.pm1sts.to_le_bytes());
+        bytes[5..7].copy_from_slice(&self.pm1en.to_le_bytes());
+        bytes[7..9].copy_from_slice(&self.pm1cnt.to_le_bytes());
+        bytes[9] = u8::from(self.sleeping);
+        bytes[10..12].copy_from_slice(&self.setupidx.to_le_bytes());
+        bytes[12..14].copy_from_slice(&self.gpe0sts.to_le_bytes());
+        bytes[14..16].copy_from_slice(&self.gpe0en.to_le_bytes());
+        bytes[16..32].copy_from_slice(&map_bytes(self.maps));
+        bytes[32] = self.irq;
+        bytes[33..37].copy_from_slice(&self.timer.to_le_bytes());
+        bytes[37..45].copy_from_slice(&level_bytes(self.levels));
+        bytes
     }
 
     #[tactic(auto, unfolding(crate::specs::Saved::acpi_from))]
@@ -136,7 +84,7 @@ impl Acpi {
             gpe0en: two_at(bytes, 14),
             maps,
             irq: bytes[32],
-            timer: timer_from(bytes),
+            timer: four_at(bytes, 33),
             levels,
         }
     }
@@ -146,15 +94,6 @@ impl Acpi {
         requires { length bytes.now ≡ acpi_size }
         ensures { result ≡ acpi_saved bytes.now }
     {
-        (bytes[2] < 2)
-            & (bytes[9] < 2)
-            & ((bytes[37] < 2)
-                & (bytes[38] < 2)
-                & (bytes[39] < 2)
-                & (bytes[40] < 2)
-                & (bytes[41] < 2)
-                & (bytes[42] < 2)
-                & (bytes[43] < 2)
-                & (bytes[44] < 2))
+        bytes[2] < 2 && bytes[9] < 2 && are_flags(&bytes[37..])
     }
 }

@@ -9,7 +9,7 @@ mod registers;
 mod setup;
 
 ghost use Rattle.std.specs.Prelude.{◌≡◌, ◌<◌};
-ghost use Rattle.access.specs.Block.{with_block, status};
+ghost use Rattle.access.specs.Block.{reply_of};
 ghost use Rattle.mask.specs.Every.{all_below};
 ghost use Rattle.acpi.specs.Acpi.{
   fresh_acpi,
@@ -26,19 +26,20 @@ ghost use Rattle.acpi.specs.Fields.{raise};
 ghost use Rattle.acpi.specs.Registers.{takes};
 ghost use Rattle.acpi.specs.Settle.{pending, sci_on, smi_on, wake};
 
-use access::{Access, Answer};
+use access::{Access, Reply, Status};
 
 // The order of the fields leaves no padding between them, and was chosen for speed. See bench/README.md.
 #[derive(Clone, Copy)]
 pub struct Acpi {
-    // The map and the level of each pin.
+    // The map and the level of each pin. Two arrays, since a pair would have a byte of padding.
     pub maps: [u16; 8],
     pub levels: [bool; 8],
     pub timer: u32,
     // The stored bits of PM1a_CNT, and SETUP_IDX.
     pub pm1cnt: u16,
     pub setupidx: u16,
-    // The CPU state, sleeping and PM1a_STS: the fields that settling changes.
+    // The CPU state, sleeping and PM1a_STS: the fields that settling changes. The CPU state is a number, since a saved device that is loaded may
+    // hold any byte there (`acpi_from`); `in_range` tests it.
     pub cpu: u8,
     pub sleeping: bool,
     pub pm1sts: u16,
@@ -50,28 +51,6 @@ pub struct Acpi {
     pub pcnt: u8,
     pub irq: u8,
     pub scien: bool,
-}
-
-// The answer to an access, and the block after it.
-#[derive(Clone, Copy)]
-pub struct AccessResult {
-    pub block: Acpi,
-    pub answer: Answer,
-}
-
-impl AccessResult {
-    // An answer with a status and no value.
-    fn status(number: u32, block: Acpi) -> Self
-        ensures { with_block result.answer result.block ≡ status number block }
-    {
-        AccessResult {
-            answer: Answer {
-                status: number,
-                value: 0,
-            },
-            block,
-        }
-    }
 }
 
 impl Acpi {
@@ -148,7 +127,7 @@ impl Acpi {
 
     pub const IRQ_RESET: u8 = 9;
 
-    pub const IRQ_MAX: u32 = 15;
+    pub const IRQ_MAX: u8 = 15;
 
     pub const TIMER_SIZE: u32 = 0x0100_0000;
 
@@ -187,7 +166,8 @@ impl Acpi {
         }
     }
 
-    // Resets 0 (PCI) and 1 (VCC) keep the block. Reset 2 (VTR) resets all of it except the pin levels.
+    // Resets 0 (PCI) and 1 (VCC) keep the block. Reset 2 (VTR) resets all of it except the pin levels. The level is a number, since `acpi_reset`
+    // says what any number does.
     #[tactic(auto, unfolding(crate::specs::Acpi::acpi_reset))]
     pub fn reset(self, level: u32) -> Self
         ensures { result ≡ acpi_reset self level }
@@ -209,16 +189,15 @@ impl Acpi {
     pub fn in_range(self) -> bool
         ensures { result ≡ acpi_in_range self }
     {
-        let maps = self.maps;
-        mask::within8(Acpi::PCNT_MASK, self.pcnt)
+        (self.pcnt & Acpi::PCNT_MASK == self.pcnt)
             & is_cpu_state(self.cpu)
-            & mask::within16(Acpi::PM1STS_MASK, self.pm1sts)
-            & mask::within16(Acpi::PM1EN_MASK, self.pm1en)
-            & mask::within16(Acpi::PM1CNT_MASK, self.pm1cnt)
-            & setup::is_setup_index(mask::wide16(self.setupidx))
-            & (mask::wide8(self.irq) <= Acpi::IRQ_MAX)
+            & (self.pm1sts & Acpi::PM1STS_MASK == self.pm1sts)
+            & (self.pm1en & Acpi::PM1EN_MASK == self.pm1en)
+            & (self.pm1cnt & Acpi::PM1CNT_MASK == self.pm1cnt)
+            & setup::is_setup_index(u32::from(self.setupidx))
+            & (self.irq <= Acpi::IRQ_MAX)
             & (self.timer < Acpi::TIMER_SIZE)
-            & maps_in_range(maps)
+            & maps_in_range(&self.maps)
     }
 
     // Is there a status bit that is 1 and enabled?
@@ -272,7 +251,7 @@ impl Acpi {
     fn raise(mut self, bits: u16) -> Self
         ensures { result ≡ raise self bits }
     {
-        self.pm1sts = self.pm1sts | bits;
+        self.pm1sts |= bits;
         self
     }
 
@@ -282,7 +261,7 @@ impl Acpi {
         ensures { result ≡ ticked self ticks }
     {
         let before = self.timer;
-        let after = std::num::wrapping_add_u32(before, ticks) % Acpi::TIMER_SIZE;
+        let after = before.wrapping_add(ticks) % Acpi::TIMER_SIZE;
         self.timer = after;
         if before & Acpi::TIMER_BIT_23 == after & Acpi::TIMER_BIT_23 {
             return self;
@@ -300,7 +279,7 @@ impl Acpi {
             0x08 => self.raise(Acpi::PWRBTN_STS),
             0x09 => self.raise(Acpi::SLPBTN_STS),
             0x10..=0x1F => {
-                self.gpe0sts = self.gpe0sts | map::gpe_bit(target);
+                self.gpe0sts |= map::gpe_bit(target);
                 self
             }
             _ => self,
@@ -322,7 +301,8 @@ impl Acpi {
         self
     }
 
-    // An event, without the settling that follows. Kinds of other blocks do not change this block.
+    // An event, without the settling that follows. Kinds of other blocks do not change this block. The kind is a number: `EventKind` is in
+    // `device`, which depends on this crate, and `acpi_event` says what any number does.
     #[tactic(auto, unfolding(crate::specs::Acpi::acpi_event))]
     pub fn event(self, kind: u32, operand: u32) -> Self
         ensures { result ≡ acpi_event self kind operand }
@@ -339,8 +319,8 @@ impl Acpi {
 
     // An access to the register at an offset, without the settling that follows.
     #[tactic(auto, unfolding(crate::specs::Acpi::acpi_access))]
-    pub fn access(self, offset: u32, access: Access) -> AccessResult
-        ensures { with_block result.answer result.block ≡ acpi_access self offset access }
+    pub fn access(self, offset: u32, access: Access) -> Reply<Acpi>
+        ensures { reply_of result ≡ acpi_access self offset access }
     {
         if takes(offset, access.width) {
             if access.write {
@@ -348,7 +328,7 @@ impl Acpi {
             }
             return self.register_read(offset);
         }
-        AccessResult::status(Answer::UNCLAIMED, self)
+        Reply::status(Status::Unclaimed, self)
     }
 }
 
@@ -381,12 +361,9 @@ fn is_cpu_state(value: u8) -> bool
 }
 
 // No early return: the compiler then tests all maps at once.
-fn maps_in_range(maps: [u16; 8]) -> bool
-    ensures { result ≡ all_below 8 (map_in_range maps) }
+fn maps_in_range(maps: &[u16; 8]) -> bool
+    ensures { result ≡ all_below 8 (map_in_range maps.now) }
 {
-    let mut legal = true;
-    for k in 0..8 {
-        legal = legal & map::is_legal(mask::wide16(maps[k]));
-    }
-    legal
+    maps.iter()
+        .fold(true, |legal, map| legal & map::is_legal(u32::from(*map)))
 }

@@ -12,7 +12,8 @@ pub fn is_legal(value: u32) -> bool
     (value <= Acpi::MAP_MAX) & (value & Acpi::MAP_RESERVED == 0) & is_legal_target(value % 256)
 }
 
-// The low byte of a map value selects no bit, bit 8 or 9 of PM1a_STS, or a bit of GPE0_STS.
+// The low byte of a map value selects no bit, bit 8 or 9 of PM1a_STS, or a bit of GPE0_STS. Not `matches!`, which
+// branches: the test of a device looks at eight maps at once (bench/README.md).
 fn is_legal_target(low: u32) -> bool
     ensures { result ≡ legal_target low }
 {

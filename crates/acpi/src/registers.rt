@@ -1,6 +1,6 @@
 // Reads and writes of the registers, by their offset from AC00h. `Acpi::access` calls it. See docs/CHIP.md, "ACPI".
 ghost use Rattle.std.specs.Prelude.{◌≡◌};
-ghost use Rattle.access.specs.Block.{with_block};
+ghost use Rattle.access.specs.Block.{reply_of};
 ghost use Rattle.acpi.specs.Registers.{
   control_read,
   register_value,
@@ -10,8 +10,8 @@ ghost use Rattle.acpi.specs.Registers.{
   register_write,
 };
 
-use crate::{AccessResult, Acpi};
-use access::Answer;
+use crate::Acpi;
+use access::{Reply, Status};
 
 impl Acpi {
     // A read of PM1a_CNT. Bit 0 is SCI_EN, and bits 2 and 13 are 0, since they are not stored.
@@ -19,9 +19,9 @@ impl Acpi {
         ensures { result ≡ control_read self }
     {
         if self.scien {
-            return mask::wide16(self.pm1cnt | Acpi::SCI_EN);
+            return u32::from(self.pm1cnt | Acpi::SCI_EN);
         }
-        mask::wide16(self.pm1cnt)
+        u32::from(self.pm1cnt)
     }
 
     // The value of the register at an offset. SMI_CMD reads 0.
@@ -30,13 +30,13 @@ impl Acpi {
         ensures { result ≡ register_value self offset }
     {
         match offset {
-            Acpi::P_CNT => self.pcnt as u32,
-            Acpi::PM1A_STS => self.pm1sts as u32,
-            Acpi::PM1A_EN => self.pm1en as u32,
+            Acpi::P_CNT => u32::from(self.pcnt),
+            Acpi::PM1A_STS => u32::from(self.pm1sts),
+            Acpi::PM1A_EN => u32::from(self.pm1en),
             Acpi::PM1A_CNT => self.control_read(),
-            Acpi::SETUP_IDX => self.setupidx as u32,
-            Acpi::GPE0_STS => self.gpe0sts as u32,
-            Acpi::GPE0_EN => self.gpe0en as u32,
+            Acpi::SETUP_IDX => u32::from(self.setupidx),
+            Acpi::GPE0_STS => u32::from(self.gpe0sts),
+            Acpi::GPE0_EN => u32::from(self.gpe0en),
             Acpi::SETUP_DATA => self.setup_value(),
             Acpi::TIMER => self.timer,
             _ => 0,
@@ -45,93 +45,84 @@ impl Acpi {
 
     // A read of P_LVL2 or P_LVL3 sets the CPU state.
     #[tactic(auto, unfolding(crate::specs::Registers::register_read))]
-    pub(crate) fn register_read(mut self, offset: u32) -> AccessResult
-        ensures { with_block result.answer result.block ≡ register_read self offset }
+    pub(crate) fn register_read(mut self, offset: u32) -> Reply<Acpi>
+        ensures { reply_of result ≡ register_read self offset }
     {
         match offset {
             Acpi::P_LVL2 => {
                 self.cpu = 2;
-                AccessResult {
-                    answer: Answer::done(0),
-                    block: self,
-                }
+                Reply::done(0, self)
             }
             Acpi::P_LVL3 => {
                 self.cpu = 3;
-                AccessResult {
-                    answer: Answer::done(0),
-                    block: self,
-                }
+                Reply::done(0, self)
             }
-            _ => AccessResult {
-                answer: Answer::done(self.register_value(offset)),
-                block: self,
-            },
+            _ => Reply::done(self.register_value(offset), self),
         }
     }
 
     // A write to SMI_CMD.
     #[tactic(auto, unfolding(crate::specs::Registers::command_write))]
-    fn command_write(mut self, value: u32) -> AccessResult
-        ensures { with_block result.answer result.block ≡ command_write self value }
+    fn command_write(mut self, value: u32) -> Reply<Acpi>
+        ensures { reply_of result ≡ command_write self value }
     {
         match value {
             1 => {
                 self.scien = true;
-                AccessResult::status(Answer::DONE, self)
+                Reply::status(Status::Done, self)
             }
             2 => {
                 self.scien = false;
-                AccessResult::status(Answer::DONE, self)
+                Reply::status(Status::Done, self)
             }
-            _ => AccessResult::status(Answer::IGNORED, self),
+            _ => Reply::status(Status::Ignored, self),
         }
     }
 
     // A write to PM1a_CNT.
     #[tactic(auto, unfolding(crate::specs::Registers::control_write))]
-    fn control_write(mut self, value: u32) -> AccessResult
-        ensures { with_block result.answer result.block ≡ control_write self value }
+    fn control_write(mut self, value: u32) -> Reply<Acpi>
+        ensures { reply_of result ≡ control_write self value }
     {
-        self.pm1cnt = mask::masked16(value, Acpi::PM1CNT_MASK);
+        self.pm1cnt = mask::masked(value, Acpi::PM1CNT_MASK);
         if value & Acpi::SLP_EN != 0 {
             self.sleeping = true;
-            return AccessResult::status(Answer::DONE, self);
+            return Reply::status(Status::Done, self);
         }
-        AccessResult::status(Answer::DONE, self)
+        Reply::status(Status::Done, self)
     }
 
     // P_LVL2, P_LVL3 and the timer are read-only.
     #[tactic(auto, unfolding(crate::specs::Registers::register_write))]
-    pub(crate) fn register_write(mut self, offset: u32, value: u32) -> AccessResult
-        ensures { with_block result.answer result.block ≡ register_write self offset value }
+    pub(crate) fn register_write(mut self, offset: u32, value: u32) -> Reply<Acpi>
+        ensures { reply_of result ≡ register_write self offset value }
     {
         match offset {
             Acpi::P_CNT => {
-                self.pcnt = mask::masked8(value, Acpi::PCNT_MASK);
-                AccessResult::status(Answer::DONE, self)
+                self.pcnt = (value & u32::from(Acpi::PCNT_MASK)) as u8;
+                Reply::status(Status::Done, self)
             }
             Acpi::SMI_CMD => self.command_write(value),
             Acpi::PM1A_STS => {
-                self.pm1sts = mask::cleared16(self.pm1sts, mask::masked16(value, Acpi::ALL_BITS));
-                AccessResult::status(Answer::DONE, self)
+                self.pm1sts &= !mask::masked(value, Acpi::ALL_BITS);
+                Reply::status(Status::Done, self)
             }
             Acpi::PM1A_EN => {
-                self.pm1en = mask::masked16(value, Acpi::PM1EN_MASK);
-                AccessResult::status(Answer::DONE, self)
+                self.pm1en = mask::masked(value, Acpi::PM1EN_MASK);
+                Reply::status(Status::Done, self)
             }
             Acpi::PM1A_CNT => self.control_write(value),
             Acpi::SETUP_IDX => self.setup_index_write(value),
             Acpi::GPE0_STS => {
-                self.gpe0sts = mask::cleared16(self.gpe0sts, mask::masked16(value, Acpi::ALL_BITS));
-                AccessResult::status(Answer::DONE, self)
+                self.gpe0sts &= !mask::masked(value, Acpi::ALL_BITS);
+                Reply::status(Status::Done, self)
             }
             Acpi::GPE0_EN => {
-                self.gpe0en = mask::masked16(value, Acpi::ALL_BITS);
-                AccessResult::status(Answer::DONE, self)
+                self.gpe0en = mask::masked(value, Acpi::ALL_BITS);
+                Reply::status(Status::Done, self)
             }
             Acpi::SETUP_DATA => self.setup_write(value),
-            _ => AccessResult::status(Answer::BLOCKED, self),
+            _ => Reply::status(Status::Blocked, self),
         }
     }
 }

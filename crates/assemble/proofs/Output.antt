@@ -9,12 +9,11 @@ use lib.Dec.{eqb}
 use lib.ListN.{drop, length, take}
 use lib.Seq.{length-take-le, take_at}
 use Rattle.assembler.proofs.TextCorrect.{text_correct}
-use Rattle.assembler.specs.Assemble.{assemble_result, record_bytes, records_after, text_records, text_refusal, with_records}
-use Rattle.assembler.specs.declared.AssembleResult.{AssembleResult}
+use Rattle.assembler.specs.Assemble.{AssembleResult, assemble_result, record_bytes, records_after, text_records, text_refusal, with_records}
 use Rattle.compiler.proofs.Image.{image_length}
 use Rattle.record.specs.Record.{record_size}
 use Rattle.refusal_text.specs.Refused.{Put}
-use Rattle.assemble.specs.Output.{output}
+use Rattle.assemble.specs.Output.{Answered, output}
 
 module _ (text buffer : List ℕ) where
   -- the buffer has room for the records of an accepted text; a refused one has none
@@ -41,8 +40,19 @@ module _ (text buffer : List ℕ) where
       pick false e = rw e
 
   -- the first n bytes of the buffer after the call
-  pub put : (after : List ℕ) (n : ℕ) → after ≡ records_after text buffer → length after ≡ length buffer
+  put : (after : List ℕ) (n : ℕ) → after ≡ records_after text buffer → length after ≡ length buffer
       → n ≡ record_size * (assemble_result text buffer).records → Put (output text buffer) after n
   put after n e l k =
       let inside : n ≤ length after = omega (arith, k, l, fits) in
       record { inside = inside; counted = sym (length-take-le n after inside); bytes = rw (k, e) front }
+
+  pub answered : (after : List ℕ) (r : AssembleResult) → after ≡ records_after text buffer → length after ≡ length buffer
+      → r ≡ assemble_result text buffer
+      → Answered text buffer after (record { refusal = r.refusal; place = r.place; length = record_size * r.records })
+  unfolding assemble_result
+  answered after r e l a =
+      record {
+        number = ap (λ (x : AssembleResult). x.refusal) a;
+        place = ap (λ (x : AssembleResult). x.place) a;
+        written = put after _ e l (ap (λ (x : AssembleResult). record_size * x.records) a);
+      }

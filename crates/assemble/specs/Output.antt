@@ -1,8 +1,19 @@
 -- What `assemble` writes to standard output, and which refusal it prints. See docs/TEXT.md, "Reading: refusals".
-use Rattle.std.specs.Prelude.{ℕ, ◌≡◌, cond, List, [], eqb}
+use Rattle.std.specs.Prelude.{ℕ, ◌≡◌, cond, List, [], eqb, Result, Ok, Err}
 use Rattle.assembler.specs.Assemble.{record_bytes, text_records, text_refusal}
+use Rattle.assembler.specs.declared.LineRefused.{LineRefused}
+use Rattle.outcome.specs.Refused.{refusal_number}
 use Rattle.refusal_text.specs.Refused.{Put}
-use Rattle.assemble.specs.declared.Answer.{Answer}
+
+-- refusal 0 and the length of the output in bytes, or a refusal with its place
+pub record Answer : Type 0 where
+  pub refusal : ℕ
+  pub place : ℕ
+  pub length : ℕ
+
+abbrev pub answer_of : Result ℕ LineRefused → Answer
+answer_of (Ok n) = record { refusal = 0; place = 0; length = n }
+answer_of (Err r) = record { refusal = refusal_number r.kind; place = r.line; length = 0 }
 
 -- the records of the text; nothing if it is refused
 unfoldable pub output : (text buffer : List ℕ) → List ℕ

@@ -9,13 +9,11 @@ use lib.ListN.{drop, length, take}
 use lib.Seq.{take_at}
 use Rattle.compiler.proofs.Image.{image_length}
 use Rattle.outcome.specs.Number as number
-use Rattle.outcome.specs.Refusal.{refusal}
-use Rattle.outcome.specs.declared.Refusal.{Refusal}
+use Rattle.outcome.specs.Refusal.{Refusal, refusal}
 use Rattle.record.specs.Record.{record_size}
 use Rattle.record.specs.declared.Record.{Record}
 use Rattle.statement.specs.Line.{line_fault}
-use Rattle.assembler.specs.Assemble.{answer, assemble_result, bad_line, check_result, first_bad_line, lines_of, no_room, record_bytes, records_after, text_records, text_refusal, with_records}
-use Rattle.assembler.specs.declared.AssembleResult.{AssembleResult}
+use Rattle.assembler.specs.Assemble.{AssembleResult, answer, assemble_result, bad_line, check_result, first_bad_line, lines_of, no_room, record_bytes, records_after, text_records, text_refusal, with_records}
 
 -- number 0 means that no line is bad, and the place is 0 too
 none_bad : (place : ℕ) (ls : List (List ℕ)) → (first_bad_line place ls).number ≡ 0 → first_bad_line place ls ≡ refusal 0 0

@@ -7,3 +7,4 @@ pub mod ScriptRecords
 pub mod TextCorrect
 pub mod TextLines
 pub mod Writing
+pub mod Ends

@@ -10,8 +10,7 @@ use lib.Dec.{eqb, ltb}
 use lib.ListN.{length}
 use Rattle.lists.specs.Tests.{first_from}
 use Rattle.mask.proofs.Every.{both}
-use Rattle.outcome.specs.Refusal.{refusal}
-use Rattle.outcome.specs.declared.Refusal.{Refusal}
+use Rattle.outcome.specs.Refusal.{Refusal, refusal}
 use Rattle.record.specs.declared.Record.{Record}
 use Rattle.statement.proofs.Complete.{complete}
 use Rattle.statement.proofs.Sound.{sound}

@@ -8,15 +8,13 @@ use native.Mathlib.Omega.{arith}
 use borrow.Author.Tests.{eq-eqb, eqb-true, le-ltb, lt-ltb, ltb-false, ltb-true, ne_eqb}
 use lib.Dec.{eqb, ltb}
 use lib.ListN.{drop, drop_of_length-le, length, length-append, length-drop, take}
-use lib.Seq.{length-take-le, paste, take_all}
+use lib.Seq.{length-take-le}
 use Rattle.compiler.proofs.Image.{one_more_word}
-use Rattle.outcome.specs.Refusal.{refusal}
-use Rattle.outcome.specs.declared.Refusal.{Refusal}
+use Rattle.outcome.specs.Refusal.{Refusal, refusal}
 use Rattle.record.proofs.ReadBack.{twelve_bytes}
 use Rattle.record.specs.Record.{bytes_of, record_size}
 use Rattle.record.specs.declared.Record.{Record}
-use Rattle.statement.specs.Line.{content, found_in, is_empty, line_fault, line_records, line_result, refused, run, statement_record, word}
-use Rattle.statement.specs.declared.LineResult.{LineResult}
+use Rattle.statement.specs.Line.{LineResult, content, found_in, is_empty, line_fault, line_records, line_result, refused, run, statement_record, word}
 use Rattle.assembler.specs.Assemble.{LinesRead, bad_line, check_result, first_bad_line, lines_of, not_line_feed, put_record, put_statements, record_bytes, records_in, text_records, with_records}
 use Rattle.assembler.proofs.Lines.{first_line, other_lines, some_line}
 
@@ -52,13 +50,6 @@ good_result l r e z = pick (eqb (line_fault l) 0) refl (is_empty (word (content 
     pick false q s p f =
         let g : r.fault ≡ line_fault l = ap (λ (x : LineResult). x.fault) f in
         absurd (false≢true (sym q ∙ eq-eqb (line_fault l) 0 (sym g ∙ z)))
-
-pub few_statements : (l : List ℕ) (r : LineResult) → r ≡ line_result l → r.fault ≡ 0 → r.statements ≤ 1
-few_statements l r e z = pick (good_result l r e z).1
-  where
-    pick : Found l r → r.statements ≤ 1
-    pick (nothing n q) = omega (arith, n)
-    pick (one n q) = omega (arith, n)
 
 -- ---- what holds before a line
 pub record Reading (text buffer now : List ℕ) (at line written : ℕ) : Type 0 where
@@ -210,11 +201,3 @@ ends text buffer now at line written i h =
       lent = i.lent;
       written = λ g f. let l = ltb-false (length buffer / record_size) (length (text_records text)) f in rw (n, ← d) (i.held (omega (arith, n, l)));
     }
-
--- ---- pasting the front of a list at index 0
-pub paste_front : (lent part after : List ℕ) (n : ℕ) → n ≤ length part → after ≡ paste lent 0 (take n part) (length (take n part))
-    → after ≡ take n part ++ drop n lent
-paste_front lent part after n h e =
-    let l = length-take-le n part h in
-    let m : 0 + n ≡ n = omega arith in
-    e ∙ rw (l, take_all n (take n part) (omega (arith, l)), m)

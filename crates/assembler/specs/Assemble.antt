@@ -2,12 +2,10 @@
 use Rattle.std.specs.Prelude.{ℕ, zero, suc, ◌+◌, ◌-◌, ◌*◌, ◌/◌, ◌≤◌, ◌<◌, ◌≡◌, Bool, false, cond, not, ◌&&◌, List, [], ◌∷◌, ◌++◌, eqb, ltb, drop, get_or, length, take}
 use Rattle.compiler.specs.Words.{image_bytes}
 use Rattle.outcome.specs.Number as number
-use Rattle.outcome.specs.Refusal.{refusal}
-use Rattle.outcome.specs.declared.Refusal.{Refusal}
+use Rattle.outcome.specs.Refusal.{Refusal, refusal}
 use Rattle.record.specs.Record.{bytes_of, record_size}
 use Rattle.record.specs.declared.Record.{Record}
 use Rattle.statement.specs.Line.{line_fault, line_records, not_semicolon}
-use Rattle.assembler.specs.declared.AssembleResult.{AssembleResult}
 use Rattle.assembler.specs.declared.LineSpan.{LineSpan}
 
 -- ---- lines
@@ -55,6 +53,12 @@ unfoldable pub text_refusal : (text buffer : List ℕ) → Refusal
 text_refusal text buffer =
     cond (eqb (bad_line text).number 0) (cond (no_room text buffer) (refusal number.records_too_short 0) (refusal 0 0))
     (bad_line text)
+
+-- refusal 0 and the number of records, or a refusal with its place
+pub record AssembleResult : Type 0 where
+  pub refusal : ℕ
+  pub place : ℕ
+  pub records : ℕ
 
 -- the answer: a refusal, or the number of records
 abbrev pub answer : Refusal → ℕ → AssembleResult

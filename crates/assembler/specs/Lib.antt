@@ -1,3 +1,4 @@
 pub mod Assemble
+pub mod Assembled
 pub mod Grammar
 pub mod TextCorrect

@@ -8,9 +8,8 @@ use Rattle.script.specs.Records.{records_of}
 use Rattle.script.specs.Scan.{shape_fault}
 use Rattle.statement.specs.Grammar.{Line}
 use Rattle.statement.specs.Line.{fits_fields}
-use Rattle.assembler.specs.Assemble.{assemble_result, lines_of, record_bytes, records_after, with_records}
+use Rattle.assembler.specs.Assemble.{AssembleResult, assemble_result, lines_of, record_bytes, records_after, with_records}
 use Rattle.assembler.specs.Grammar.{Lines, Text}
-use Rattle.assembler.specs.declared.AssembleResult.{AssembleResult}
 
 -- every number of the records fits
 abbrev pub Fit : List Record → Type 0

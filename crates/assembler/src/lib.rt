@@ -3,18 +3,20 @@
 // See docs/TEXT.md, "Reading: refusals".
 #![tactic(auto)]
 
-ghost use Rattle.std.specs.Prelude.{◌≡◌, ◌++◌, suc, ◌+◌, ◌^◌, ◌≤◌, ◌<◌, length, take, drop};
+ghost use Rattle.std.specs.Prelude.{◌≡◌, ◌==◌, ◌||◌, ◌++◌, suc, ◌+◌, ◌≤◌, length, take, drop, position};
 ghost use Rattle.statement.specs.Line.{run};
-ghost use Rattle.assembler.specs.Assemble.{LineAt, LinesRead, assemble_result, before_comment, not_line_feed, put_statements, records_after};
+ghost use Rattle.assembler.specs.Assemble.{LineAt, LinesRead, assemble_result, before_comment, not_line_feed, put_record, records_after};
+ghost use Rattle.assembler.specs.Assembled.{assembled};
 
+use outcome::RefusalKind;
 use record::Record;
 
-// Refusal 0 and the number of records, or a refusal with its place.
-#[derive(Clone, Copy)]
-pub struct AssembleResult {
-    pub refusal: u32,
-    pub place: usize,
-    pub records: usize,
+// A refused text: why, and the number of the line, counted from 0. It is 0 where the fault is in no line, as in `assemble_result`. Not `Refused`, whose
+// place has 32 bits: a text may have more lines.
+#[derive(Clone, Copy, Debug, PartialEq, Eq, Hash)]
+pub struct LineRefused {
+    pub kind: RefusalKind,
+    pub line: usize,
 }
 
 // Up to this many records are kept in a buffer of the assembler's own until the last line is known to be good. It is the most that a script may have.
@@ -24,22 +26,25 @@ const KEPT_SIZE: usize = Record::SIZE * Record::MOST;
 
 // ---- lines
 
+fn first_comment(text: &[u8]) -> Option<usize>
+    ensures { result ≡ position (λ b. (b == 0x0A) || (b == 0x3B)) text.now }
+{
+    text.iter().position(|b| *b == b'\n' || *b == b';')
+}
+
+fn first_line_feed(text: &[u8]) -> Option<usize>
+    ensures { result ≡ position (λ b. b == 0x0A) text.now }
+{
+    text.iter().position(|b| *b == b'\n')
+}
+
 // The index of the first line feed or semicolon from `at` on, or the length of the text.
 fn comment_start(text: &[u8], at: usize) -> usize
     requires { at ≤ length text.now }
     ensures { result ≡ at + run before_comment (drop at text.now) }
 {
-    let mut k = at;
-    while k < text.len() {
-        if text[k] == b'\n' {
-            break;
-        }
-        if text[k] == b';' {
-            break;
-        }
-        k = k + 1;
-    }
-    k
+    let rest = &text[at..];
+    at + first_comment(rest).unwrap_or(rest.len())
 }
 
 // The index of the first line feed from `at` on, or the length of the text.
@@ -47,14 +52,8 @@ fn line_end(text: &[u8], at: usize) -> usize
     requires { at ≤ length text.now }
     ensures { result ≡ at + run not_line_feed (drop at text.now) }
 {
-    let mut k = at;
-    while k < text.len() {
-        if text[k] == b'\n' {
-            break;
-        }
-        k = k + 1;
-    }
-    k
+    let rest = &text[at..];
+    at + first_line_feed(rest).unwrap_or(rest.len())
 }
 
 // The index of the next line, if a line ends at `end`.
@@ -68,7 +67,7 @@ fn next_line(text: &[u8], end: usize) -> usize
     end
 }
 
-// Where a line is in the text. The line feed is not part of it.
+// Where a line is in the text. The line feed is not part of it. Not the slice: the clauses `starts` and `after_last` of `LineAt` say where it begins.
 #[derive(Clone, Copy)]
 pub struct LineSpan {
     pub from: usize,
@@ -80,14 +79,11 @@ pub fn find_line(text: &[u8], place: usize) -> LineSpan
     ensures { LineAt text.now place result }
 {
     let mut at: usize = 0;
-    let mut k: usize = 0;
-    while k < place {
+    for _k in 0..place {
         if text.len() <= at {
             break;
         }
-        let end = line_end(text, at);
-        at = next_line(text, end);
-        k = k + 1;
+        at = next_line(text, line_end(text, at));
     }
     let to = line_end(text, at);
     LineSpan { from: at, to }
@@ -95,50 +91,39 @@ pub fn find_line(text: &[u8], place: usize) -> LineSpan
 
 // ---- texts
 
-// Writes the record of a line at its place in the buffer, if the line has one and there is room for it. Returns the place after it.
-fn put(records: &mut [u8], place: usize, statements: usize, r: Record) -> usize
-    requires { place + statements < 2 ^ 64 }
-    ensures { (result ≡ place + statements) × (records.new ≡ put_statements statements place r records.old) }
+// Writes a record at its place in the buffer, if there is room for it.
+fn put(records: &mut [u8], place: usize, r: Record)
+    ensures { records.new ≡ put_record place r records.old }
 {
-    let next = place + statements;
-    if statements == 0 {
-        return next;
+    if place < records.len() / Record::SIZE {
+        let at = Record::SIZE * place;
+        record::write(&mut records[at..], r);
     }
-    if records.len() / Record::SIZE <= place {
-        return next;
-    }
-    let at = Record::SIZE * place;
-    record::write(&mut records[at..], r);
-    next
 }
 
 // Refusals 30, 31 and 32, or the number of statements. Writes the record of each statement that the buffer has room for.
-fn read_lines(text: &[u8], records: &mut [u8]) -> AssembleResult
-    ensures { LinesRead text.now records.old records.new result }
+fn read_lines(text: &[u8], records: &mut [u8]) -> Result<usize, LineRefused>
+    ensures { LinesRead text.now records.old records.new (assembled result) }
 {
     let mut at: usize = 0;
     let mut line: usize = 0;
     let mut written: usize = 0;
+    // Not `split`: after the last line feed it gives one more, empty line, which the grammar does not have.
     while at < text.len() {
         let comment = comment_start(text, at);
         let end = line_end(text, comment);
-        let r = statement::read(&text[at..end], comment - at);
-        if r.fault != 0 {
-            return AssembleResult {
-                refusal: r.fault,
-                place: line,
-                records: 0,
-            };
+        let found = statement::read(&text[at..end], comment - at).map_err(|kind| LineRefused {
+            kind,
+            line,
+        })?;
+        if let Some(r) = found {
+            put(records, written, r);
+            written += 1;
         }
-        written = put(records, written, r.statements, r.found);
-        line = line + 1;
+        line += 1;
         at = next_line(text, end);
     }
-    AssembleResult {
-        refusal: 0,
-        place: 0,
-        records: written,
-    }
+    Ok(written)
 }
 
 // Copies the first `end` bytes of the kept records to the front of the buffer.
@@ -146,30 +131,25 @@ fn copy(records: &mut [u8], kept: &[u8], end: usize)
     requires { (end ≤ length kept.now) × (end ≤ length records.old) }
     ensures { records.new ≡ take end kept.now ++ drop end records.old }
 {
-    lists::put(records, 0, &kept[..end]);
+    records[..end].copy_from_slice(&kept[..end]);
 }
 
 // Reads a text script. Nothing may be written to the buffer before the last line is known to be good, so the records are kept elsewhere until then. If
 // there are more than can be kept, all lines are read again.
-pub fn assemble(text: &[u8], records: &mut [u8]) -> AssembleResult
-    ensures { (result ≡ assemble_result text.now records.old) × (records.new ≡ records_after text.now records.old) }
+pub fn assemble(text: &[u8], records: &mut [u8]) -> Result<usize, LineRefused>
+    ensures { (assembled result ≡ assemble_result text.now records.old) × (records.new ≡ records_after text.now records.old) }
 {
     let mut kept = [0u8; KEPT_SIZE];
-    let found = read_lines(text, &mut kept);
-    if found.refusal != 0 {
-        return found;
+    let count = read_lines(text, &mut kept)?;
+    if records.len() / Record::SIZE < count {
+        return Err(LineRefused {
+            kind: RefusalKind::RecordsTooShort,
+            line: 0,
+        });
     }
-    if records.len() / Record::SIZE < found.records {
-        return AssembleResult {
-            refusal: outcome::RECORDS_TOO_SHORT,
-            place: 0,
-            records: 0,
-        };
-    }
-    if found.records <= MOST_KEPT {
-        let end = Record::SIZE * found.records;
-        copy(records, &kept, end);
-        return found;
+    if count <= MOST_KEPT {
+        copy(records, &kept, Record::SIZE * count);
+        return Ok(count);
     }
     read_lines(text, records)
 }

@@ -7,9 +7,7 @@ use native.Mathlib.Omega.{arith}
 use borrow.Author.Tests.{eqb-true}
 use lib.Dec.{eqb}
 use Rattle.mask.proofs.Branch.{branch_on}
-use Rattle.bays.specs.Registers.{decode, offset_of, register_at}
-use Rattle.bays.specs.declared.registers.Decoded.{Decoded}
-use Rattle.bays.specs.declared.registers.Decoded.TheVariants.{To, Nowhere}
+use Rattle.bays.specs.Registers.{Decoded, Nowhere, To, decode, offset_of, register_at}
 use Rattle.bays.specs.declared.registers.Register.{Register}
 use Rattle.bays.specs.declared.registers.Register.TheVariants.{
   VendorId,

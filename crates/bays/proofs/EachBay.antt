@@ -9,11 +9,9 @@ use Rattle.mask.proofs.Branch.{branch}
 use Rattle.bays.specs.Bay.{control_write, status_write}
 use Rattle.bays.specs.Bays.{bays_access, bays_event, decoded_access, lines_kind}
 use Rattle.bays.specs.Lines.{lines_event}
-use Rattle.bays.specs.Registers.{bay_of, bays, decode, register_write, with_bay}
+use Rattle.bays.specs.Registers.{Decoded, Nowhere, To, bay_of, bays, decode, register_write, with_bay}
 use Rattle.bays.specs.declared.Bays.{Bays}
 use Rattle.bays.specs.declared.bay.Bay.{Bay}
-use Rattle.bays.specs.declared.registers.Decoded.{Decoded}
-use Rattle.bays.specs.declared.registers.Decoded.TheVariants.{To, Nowhere}
 use Rattle.bays.specs.declared.registers.Register.{Register}
 use Rattle.bays.specs.declared.registers.Register.TheVariants.{
   VendorId,

@@ -8,11 +8,9 @@ use Rattle.access.specs.Block.{Result, status}
 use Rattle.access.specs.declared.Access.{Access}
 use Rattle.bays.specs.Bays.{bays_access, decoded_access}
 use Rattle.bays.specs.Once.{after_write, write_status}
-use Rattle.bays.specs.Registers.{capabilities_from, decode, register_write, with_capabilities, with_subsystem, with_subvendor}
+use Rattle.bays.specs.Registers.{Decoded, Nowhere, To, capabilities_from, decode, register_write, with_capabilities, with_subsystem, with_subvendor}
 use Rattle.bays.specs.declared.Bays.{Bays}
 use Rattle.bays.specs.declared.once.Once.{Once}
-use Rattle.bays.specs.declared.registers.Decoded.{Decoded}
-use Rattle.bays.specs.declared.registers.Decoded.TheVariants.{To, Nowhere}
 use Rattle.bays.specs.declared.registers.Register.{Register}
 use Rattle.bays.specs.declared.registers.Register.TheVariants.{
   VendorId,

@@ -58,13 +58,11 @@ use Rattle.bays.specs.Lines.{
   with_lines,
 }
 use Rattle.bays.specs.Once.{after_write}
-use Rattle.bays.specs.Registers.{bay_count, bay_count_max, bay_of, capabilities_from, decode, register_write, with_bay}
+use Rattle.bays.specs.Registers.{Decoded, Nowhere, To, bay_count, bay_count_max, bay_of, capabilities_from, decode, register_write, with_bay}
 use Rattle.bays.specs.declared.Bays.{Bays}
 use Rattle.bays.specs.declared.bay.Bay.{Bay}
 use Rattle.bays.specs.declared.bay.Lines.{Lines}
 use Rattle.bays.specs.declared.once.Once.{Once}
-use Rattle.bays.specs.declared.registers.Decoded.{Decoded}
-use Rattle.bays.specs.declared.registers.Decoded.TheVariants.{To, Nowhere}
 use Rattle.bays.specs.declared.registers.Register.{Register}
 use Rattle.bays.specs.declared.registers.Register.TheVariants.{
   VendorId,

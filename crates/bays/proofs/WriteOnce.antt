@@ -29,13 +29,11 @@ use Rattle.bays.specs.Lines.{
   take_usb,
 }
 use Rattle.bays.specs.Once.{after_write}
-use Rattle.bays.specs.Registers.{bay_of, capabilities_from, decode, register_write}
+use Rattle.bays.specs.Registers.{Decoded, Nowhere, To, bay_of, capabilities_from, decode, register_write}
 use Rattle.bays.specs.declared.Bays.{Bays}
 use Rattle.bays.specs.declared.bay.Bay.{Bay}
 use Rattle.bays.specs.declared.bay.Lines.{Lines}
 use Rattle.bays.specs.declared.once.Once.{Once}
-use Rattle.bays.specs.declared.registers.Decoded.{Decoded}
-use Rattle.bays.specs.declared.registers.Decoded.TheVariants.{To, Nowhere}
 use Rattle.bays.specs.declared.registers.Register.{Register}
 use Rattle.bays.specs.declared.registers.Register.TheVariants.{
   VendorId,

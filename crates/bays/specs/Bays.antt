@@ -9,11 +9,9 @@ use Rattle.mask.specs.Mask.{within}
 use Rattle.bays.specs.Bay.{bay_alert, bay_in_range, bay_reset, fresh_bay}
 use Rattle.bays.specs.Lines.{lines_event}
 use Rattle.bays.specs.Once.{fresh_once}
-use Rattle.bays.specs.Registers.{bay_count_max, bay_of, bays, decode, register_value, register_write, with_bay}
+use Rattle.bays.specs.Registers.{Decoded, Nowhere, To, bay_count_max, bay_of, bays, decode, register_value, register_write, with_bay}
 use Rattle.bays.specs.declared.Bays.{Bays}
 use Rattle.bays.specs.declared.once.Once.{Once}
-use Rattle.bays.specs.declared.registers.Decoded.{Decoded}
-use Rattle.bays.specs.declared.registers.Decoded.TheVariants.{To, Nowhere}
 
 -- ---- fresh and reset
 -- "Fresh is all 0, no device"

@@ -1,5 +1,5 @@
 -- The registers of the block: which one answers at an offset, what it reads, and what a write does. See docs/CHIP.md, "Bays".
-use Rattle.std.specs.Prelude.{ℕ, ◌%◌, Bool, cond, eqb, leb}
+use Rattle.std.specs.Prelude.{ℕ, ◌%◌, Bool, cond, Option, Some, None, eqb, leb}
 use Rattle.std.specs.Int.Bits.{bit_and, bit_or}
 use Rattle.access.specs.Block.{Result, status}
 use Rattle.mask.specs.Mask.{has_bit}
@@ -10,8 +10,6 @@ use Rattle.bays.specs.Once.{after_write, write_status}
 use Rattle.bays.specs.declared.Bays.{Bays}
 use Rattle.bays.specs.declared.bay.Bay.{Bay}
 use Rattle.bays.specs.declared.once.Once.{Once}
-use Rattle.bays.specs.declared.registers.Decoded.{Decoded}
-use Rattle.bays.specs.declared.registers.Decoded.TheVariants.{To, Nowhere}
 use Rattle.bays.specs.declared.registers.Register.{Register}
 use Rattle.bays.specs.declared.registers.Register.TheVariants.{
   VendorId,
@@ -46,6 +44,16 @@ with_bay s n b =
     (bays s.subvendor s.subsystem s.capabilities s.bay0 b)
 
 -- ---- which register answers
+-- an access leads to a register, or nowhere: then the answer is status 1
+pub data Decoded : Type 0 where
+  To : Register → Decoded
+  Nowhere : Decoded
+
+-- the same in the code
+abbrev pub decoded_of : Option Register → Decoded
+decoded_of (Some r) = To r
+decoded_of None = Nowhere
+
 -- "each of width 4; anything else up to AD7Fh is status 1"
 abbrev pub register_at : ℕ → Decoded
 register_at offset =

@@ -1,5 +1,5 @@
 // One bay: its control register (BCER), its status register (BSTR), its lines and its state. Both bays of the block are this type. See
-// docs/CHIP.md, "Bays". The functions of `Bays` call it.
+// docs/PROMISES.md, "Device bays". The functions of `Bays` call it.
 ghost use Rattle.std.specs.Prelude.{◌≡◌};
 ghost use Rattle.bays.specs.Bay.{
   bay_alert,
@@ -59,7 +59,8 @@ pub struct Lines {
 #[derive(Clone, Copy)]
 pub struct Bay {
     pub control: Control,
-    // BAY_ST, and the sticky bits REMREQ_STS and DEVSTSCHG.
+    // BAY_ST, and the sticky bits REMREQ_STS and DEVSTSCHG. The state, and the request in `Control`, are numbers, since saved bytes may hold any
+    // byte there (`bay_from`); `in_range` tests them.
     pub state: u8,
     pub remreq: bool,
     pub devchg: bool,
@@ -97,7 +98,7 @@ impl Control {
         ensures { result ≡ control_value self }
     {
         flag_bit(self.lock, Bay::LOCK_CTL)
-            | (mask::wide8(self.request) * 16
+            | (u32::from(self.request) * 16
                 | (flag_bit(self.remreqen, Bay::REMREQ_EN)
                     | (flag_bit(self.devchgen, Bay::DEVSTSCHG_EN)
                         | (flag_bit(self.wakeen, Bay::REMEVTWAK_EN)
@@ -225,9 +226,9 @@ impl Bay {
     pub fn status_value(self, seclock: bool) -> u32
         ensures { result ≡ status_value seclock self }
     {
-        mask::wide16(self.form.value) * 256
+        u32::from(self.form.value) * 256
             | (flag_bit(seclock & self.lines.security, Bay::SL_STS)
-                | (mask::wide8(self.state) * 16
+                | (u32::from(self.state) * 16
                     | (flag_bit(self.remreq, Bay::REMREQ_STS)
                         | (flag_bit(self.devchg, Bay::DEVSTSCHG)
                             | (flag_bit(self.lines.ieee1394, Bay::PRSN_STS_1394)
@@ -300,8 +301,7 @@ impl Bay {
         let control = self.control_after(value);
         let requested = self.requested_state(value);
         let inserted = self.late_insertion(value, requested);
-        let state = self.late_removal(value, inserted);
-        self.state = state;
+        self.state = self.late_removal(value, inserted);
         self.control = control;
         self
     }
@@ -311,10 +311,9 @@ impl Bay {
     pub fn status_write(mut self, value: u32) -> Self
         ensures { result ≡ status_write self value }
     {
-        let form = self.form.write((value / 256 % 8) as u16);
-        self.form = form;
-        self.remreq = self.remreq & (value & Bay::REMREQ_STS == 0);
-        self.devchg = self.devchg & (value & Bay::DEVSTSCHG == 0);
+        self.form = self.form.write((value / 256 % 8) as u16);
+        self.remreq &= value & Bay::REMREQ_STS == 0;
+        self.devchg &= value & Bay::DEVSTSCHG == 0;
         self
     }
 
@@ -335,10 +334,9 @@ impl Bay {
         ensures { result ≡ removal self }
     {
         let allowed = self.state == Bay::REMOVAL_ALLOWED;
-        self.devchg = self.devchg | !(allowed & !self.control.wakeen);
+        self.devchg |= !(allowed & !self.control.wakeen);
         self.state = Bay::EMPTY;
-        let control = self.control.after_removal();
-        self.control = control;
+        self.control = self.control.after_removal();
         self
     }
 
@@ -445,5 +443,5 @@ fn request_code(value: u32) -> u8
 fn is_request(code: u8) -> bool
     ensures { result ≡ is_request code }
 {
-    (Bay::INSERTED <= code) & (code <= Bay::REMOVAL_ALLOWED)
+    matches!(code, Bay::INSERTED..=Bay::REMOVAL_ALLOWED)
 }

@@ -1,4 +1,4 @@
-// The bays as 41 bytes, and back. `state` calls it. See docs/STATE.md.
+// The bays as 41 bytes, and back. A part is read at its offset in the whole bytes, as in the definitions `once_from` and `bay_from`.
 ghost use Rattle.std.specs.Prelude.{◌≡◌, ◌+◌, ◌≤◌, length};
 ghost use Rattle.bays.specs.Saved.{
   bay_bytes,
@@ -8,7 +8,6 @@ ghost use Rattle.bays.specs.Saved.{
   bays_bytes,
   bays_from,
   bays_saved,
-  bays_size,
   once_bytes,
   once_from,
   once_saved,
@@ -18,6 +17,7 @@ ghost use Rattle.bays.specs.Saved.{
 use crate::Bays;
 use crate::bay::{Bay, Control, Lines};
 use crate::once::Once;
+use little_endian::two_at;
 
 // Where the parts start.
 const SUBSYSTEM_START: usize = Once::SIZE;
@@ -34,11 +34,8 @@ impl Once {
     fn to_bytes(self) -> [u8; Once::SIZE]
         ensures { result ≡ once_bytes self }
     {
-        [
-            (self.value % 256) as u8,
-            (self.value / 256 % 256) as u8,
-            self.written as u8,
-        ]
+        let [low, high] = self.value.to_le_bytes();
+        [low, high, u8::from(self.written)]
     }
 
     fn from_bytes(bytes: &[u8], at: usize) -> Self
@@ -46,7 +43,7 @@ impl Once {
         ensures { result ≡ once_from bytes.now at }
     {
         Once {
-            value: little_endian::two_at(bytes, at),
+            value: two_at(bytes, at),
             written: bytes[at + 2] == 1,
         }
     }
@@ -66,24 +63,24 @@ impl Bay {
     fn to_bytes(self) -> [u8; Bay::SIZE]
         ensures { result ≡ bay_bytes self }
     {
-        let form = self.form;
+        let [form_low, form_high, form_written] = self.form.to_bytes();
         [
-            self.control.lock as u8,
+            u8::from(self.control.lock),
             self.control.request,
-            self.control.remreqen as u8,
-            self.control.devchgen as u8,
-            self.control.wakeen as u8,
-            self.control.power as u8,
-            (form.value % 256) as u8,
-            (form.value / 256 % 256) as u8,
-            form.written as u8,
+            u8::from(self.control.remreqen),
+            u8::from(self.control.devchgen),
+            u8::from(self.control.wakeen),
+            u8::from(self.control.power),
+            form_low,
+            form_high,
+            form_written,
             self.state,
-            self.remreq as u8,
-            self.devchg as u8,
-            self.lines.ieee1394 as u8,
-            self.lines.usb as u8,
-            self.lines.button as u8,
-            self.lines.security as u8,
+            u8::from(self.remreq),
+            u8::from(self.devchg),
+            u8::from(self.lines.ieee1394),
+            u8::from(self.lines.usb),
+            u8::from(self.lines.button),
+            u8::from(self.lines.security),
         ]
     }
 
@@ -141,21 +138,16 @@ impl Bays {
         ensures { result ≡ bays_bytes self }
     {
         let mut bytes = [0u8; Bays::SIZE];
-        lists::put(&mut bytes, 0, &self.subvendor.to_bytes());
-        lists::put(&mut bytes, SUBSYSTEM_START, &self.subsystem.to_bytes());
-        lists::put(
-            &mut bytes,
-            CAPABILITIES_START,
-            &self.capabilities.to_bytes(),
-        );
-        lists::put(&mut bytes, BAY0_START, &self.bay0.to_bytes());
-        lists::put(&mut bytes, BAY1_START, &self.bay1.to_bytes());
+        bytes[..SUBSYSTEM_START].copy_from_slice(&self.subvendor.to_bytes());
+        bytes[SUBSYSTEM_START..CAPABILITIES_START].copy_from_slice(&self.subsystem.to_bytes());
+        bytes[CAPABILITIES_START..BAY0_START].copy_from_slice(&self.capabilities.to_bytes());
+        bytes[BAY0_START..BAY1_START].copy_from_slice(&self.bay0.to_bytes());
+        bytes[BAY1_START..].copy_from_slice(&self.bay1.to_bytes());
         bytes
     }
 
     #[tactic(auto, unfolding(crate::specs::Saved::bays_from))]
-    pub fn from_bytes(bytes: &[u8]) -> Self
-        requires { length bytes.now ≡ bays_size }
+    pub fn from_bytes(bytes: &[u8; Bays::SIZE]) -> Self
         ensures { result ≡ bays_from bytes.now }
     {
         let subvendor = Once::from_bytes(bytes, 0);
@@ -173,8 +165,7 @@ impl Bays {
     }
 
     // Can these bytes be the block? The flags must be 0 or 1.
-    pub fn is_saved(bytes: &[u8]) -> bool
-        requires { length bytes.now ≡ bays_size }
+    pub fn is_saved(bytes: &[u8; Bays::SIZE]) -> bool
         ensures { result ≡ bays_saved bytes.now }
     {
         (Once::is_saved(bytes, 0)

@@ -1,5 +1,5 @@
 // The device bays: two bays that take removable devices, after the controller of a data sheet. The block has identification registers, and
-// for each bay a control register (BCER) and a status register (BSTR). See docs/CHIP.md, "Bays". `device` calls it and knows its ports.
+// for each bay a control register (BCER) and a status register (BSTR). The block is not part of the device yet. See docs/PROMISES.md, "Device bays".
 // bay.rt has one bay, once.rt a field that is written once, registers.rt the registers, bytes.rt the saved form.
 #![tactic(auto)]
 
@@ -9,8 +9,7 @@ pub mod once;
 mod registers;
 
 ghost use Rattle.std.specs.Prelude.{◌≡◌};
-ghost use Rattle.access.specs.Block.{with_block, status};
-ghost use Rattle.access.specs.Status.{done};
+ghost use Rattle.access.specs.Block.{reply_of};
 ghost use Rattle.bays.specs.Bays.{
   alert,
   bays_access,
@@ -24,8 +23,7 @@ ghost use Rattle.bays.specs.Registers.{bay_of, with_bay};
 
 use crate::bay::Bay;
 use crate::once::Once;
-use crate::registers::Decoded;
-use access::{Access, Answer};
+use access::{Access, Reply, Status};
 
 #[derive(Clone, Copy)]
 pub struct Bays {
@@ -33,42 +31,9 @@ pub struct Bays {
     pub subvendor: Once,
     pub subsystem: Once,
     pub capabilities: Once,
+    // Two fields, not an array: `bay_of` and `with_bay` take any number, and an index would have to be below 2.
     pub bay0: Bay,
     pub bay1: Bay,
-}
-
-// The answer to an access, and the block after it.
-#[derive(Clone, Copy)]
-pub struct AccessResult {
-    pub block: Bays,
-    pub answer: Answer,
-}
-
-impl AccessResult {
-    // An answer with a status and no value.
-    fn status(number: u32, block: Bays) -> Self
-        ensures { with_block result.answer result.block ≡ status number block }
-    {
-        AccessResult {
-            answer: Answer {
-                status: number,
-                value: 0,
-            },
-            block,
-        }
-    }
-
-    fn read(value: u32, block: Bays) -> Self
-        ensures { with_block result.answer result.block ≡ with_block (done value) block }
-    {
-        AccessResult {
-            answer: Answer {
-                status: Answer::DONE,
-                value,
-            },
-            block,
-        }
-    }
 }
 
 impl Bays {
@@ -120,7 +85,8 @@ impl Bays {
         }
     }
 
-    // Resets 0 (PCI) and 1 (VCC) keep the block. Reset 2 (VTR) keeps what is written once, and the lines.
+    // Resets 0 (PCI) and 1 (VCC) keep the block. Reset 2 (VTR) keeps what is written once, and the lines. The level is a number, since
+    // `bays_reset` says what any number does.
     #[tactic(auto, unfolding(crate::specs::Bays::bays_reset))]
     pub fn reset(mut self, level: u32) -> Self
         ensures { result ≡ bays_reset self level }
@@ -173,19 +139,19 @@ impl Bays {
 
     // An access to the register at an offset, without the settling that follows.
     #[tactic(auto, unfolding(crate::specs::Bays::bays_access, crate::specs::Bays::decoded_access))]
-    pub fn access(self, offset: u32, access: Access) -> AccessResult
-        ensures { with_block result.answer result.block ≡ bays_access self offset access }
+    pub fn access(self, offset: u32, access: Access) -> Reply<Bays>
+        ensures { reply_of result ≡ bays_access self offset access }
     {
-        let Decoded::To(register) = registers::decode(offset, access.width) else {
-            return AccessResult::status(Answer::UNCLAIMED, self);
+        let Some(register) = registers::decode(offset, access.width) else {
+            return Reply::status(Status::Unclaimed, self);
         };
         if access.write {
             return self.register_write(register, access.value);
         }
-        AccessResult::read(self.register_value(register), self)
+        Reply::done(self.register_value(register), self)
     }
 
-    // An event that sets the lines of one bay. Other events do not change the block.
+    // An event that sets the lines of one bay. Other events do not change the block. The kind is a number, since `bays_event` says what any does.
     #[tactic(auto, unfolding(crate::specs::Bays::bays_event))]
     pub fn event(self, kind: u32, operand: u32) -> Self
         ensures { result ≡ bays_event self kind operand }
@@ -210,6 +176,5 @@ impl Bays {
 fn legal_capabilities(value: u16) -> bool
     ensures { result ≡ legal_capabilities value }
 {
-    mask::within16(Bays::CAPABILITIES_MASK, value)
-        & (mask::wide16(value % 16) <= Bays::BAY_COUNT_MAX)
+    (value & Bays::CAPABILITIES_MASK == value) & (u32::from(value % 16) <= Bays::BAY_COUNT_MAX)
 }

@@ -1,7 +1,7 @@
 -- The answer of the compiler and the buffer after it, from the result of the scan and the length of the buffer. Also: a
 -- script is refused exactly when one of refusals 1 to 8 applies or the buffer is too short for its words (`refuses_not`,
 -- `accepts_all`).
-use Prim.Native.Nat.{ℕ, ◌*◌, ◌%◌, ◌≤◌}
+use Prim.Native.Nat.{ℕ, ◌*◌, ◌≤◌}
 use mathlib.Core.Path.{◌≡◌, refl, sym, ap, ◌∙◌}
 use mathlib.Core.Bool.{Bool, true, false, cond}
 use mathlib.Core.List.{List, ◌++◌}
@@ -13,12 +13,9 @@ use Rattle.record.specs.Record.{record_size}
 use Rattle.script.specs.Records.{record_count}
 use Rattle.script.specs.Refusals.{script_refusal, words_in}
 use Rattle.outcome.specs.Refusal.{refusal}
-use Rattle.script.specs.Scan.{script_scan}
-use Rattle.script.specs.declared.ScanResult.{ScanResult}
-use Rattle.script.proofs.Records.{counts}
-use Rattle.compiler.specs.Compile.{compile_result, compile_refusal, image_after, too_short}
+use Rattle.script.specs.Scan.{ScanResult, script_scan}
+use Rattle.compiler.specs.Compile.{CompileResult, compile_result, compile_refusal, image_after, too_short}
 use Rattle.compiler.specs.Words.{image_bytes, words_of}
-use Rattle.compiler.specs.declared.CompileResult.{CompileResult}
 use Rattle.compiler.proofs.Places.{count_words}
 
 module _ (script image : List ℕ) (s : ScanResult) (e : s ≡ script_scan script) where
@@ -48,14 +45,12 @@ module _ (script image : List ℕ) (s : ScanResult) (e : s ≡ script_scan scrip
 
   -- ---- the buffer is too short
   pub unfit : s.number ≡ 0 → ltb (length image) (record_size * s.words) ≡ true
-      → (◌≡◌ {A = CompileResult} (record { refusal = 9; place = record_count script % 4096; words = 0 }) (compile_result script image))
+      → (◌≡◌ {A = CompileResult} (record { refusal = 9; place = record_count script; words = 0 }) (compile_result script image))
       × (image ≡ image_after script image)
   unfolding compile_result image_after compile_refusal
   unfit z l =
       let t : too_short script image ≡ true = rw (words_are z) at l in
-      let c = counts script (record_count script) refl (accepted_by z) in
-      let p : record_count script % 4096 ≡ record_count script = omega arith in
-      (rw (accepted_by z, t, p), rw (accepted_by z, t))
+      (rw (accepted_by z, t), rw (accepted_by z, t))
 
   -- ---- success
   pub fit : s.number ≡ 0 → ltb (length image) (record_size * s.words) ≡ false → record_size * length (words_of script) ≤ length image

@@ -1,203 +1,245 @@
 -- The loop invariant of `fill_targets`: what holds before record k, and that each kind of record keeps it. It restates
--- `Aiming` (Targets.antt) for the two arrays in which the code keeps the open blocks.
-use Prim.Native.Nat.{ℕ, suc, ◌+◌, ◌-◌, ◌*◌, ◌≤◌, ◌<◌}
-use mathlib.Core.Path.{◌≡◌, sym, ap, ◌∙◌}
-use mathlib.Core.Bool.{Bool, true, false, cond, not, ◌||◌}
-use mathlib.Core.List.{List, [], ◌∷◌}
-use mathlib.Core.Logic.{◌⊎◌, inl, inr}
-use native.Mathlib.Decide.{dec_lt}
-use native.Mathlib.Omega.{arith}
-use lib.Dec.{eqb}
-use lib.ListN.{length, get_or, set, replicate, length-replicate, length-set}
-use Rattle.lists.specs.Stack.{stack_of}
+-- `Aiming` (Targets.antt) for the stack in which the code keeps the open blocks.
+use Rattle.std.proofs.Common.{◌≡◌, ℕ, ◌+◌, ◌-◌, ◌*◌, ◌<◌, ◌≤◌, true, false, ◌||◌, ◌⊎◌, inl, inr, List, [], ◌∷◌, length, get_or, set, replicate, Some, None, refl, sym, ap, ◌∙◌, add-one, arith, eqb}
+use Rattle.std.specs.Prelude.{Option, is_some, map, unwrap_or}
+use Rattle.std.proofs.lemmas.Bool.{cases_eq}
+use Rattle.std.proofs.lemmas.List.{get_or-set_other, get_or-set_same, length-map, length-replicate, length-set, map-set}
+use Rattle.std.proofs.Math.ListN.{get_or-map}
+use Rattle.std.proofs.lemmas.Option.{none-some, same_Some}
+use borrow.Author.Tests.{ne_eqb}
+use Rattle.lists.specs.All.{All}
 use Rattle.lists.proofs.Replicate.{replicate_at}
-use Rattle.lists.proofs.Stack.{stack_length, stack_push, stack_set_top, stack_top}
 use Rattle.record.specs.Record.{record_at, record_size}
 use Rattle.record.specs.declared.Record.{Record}
+use Rattle.script.specs.Kinds.{kind_number}
+use Rattle.script.specs.declared.kind.RecordKind.{RecordKind}
+use Rattle.script.specs.declared.kind.RecordKind.TheVariants.{Write, Read, Delay}
 use Rattle.script.specs.Records.{record_count, records_from, records_of}
 use Rattle.script.specs.Refusals.{script_refusal}
 use Rattle.script.proofs.Flat.{accepted, accepts, numbers}
 use Rattle.script.proofs.Records.{Counted, after_last_lem, counts, from_here}
-use Rattle.compiler.specs.Emit.{TargetsFrom, place_after_record}
-use Rattle.compiler.proofs.Targets.{Aiming, as_many, completes, elses_wait, ends_close, first_waits, ifs_open, next, Next, none, passes, repeats_open}
+use Rattle.compiler.specs.Emit.{HasWord, TargetsFrom, place_after_record, target_numbers}
+use Rattle.compiler.specs.declared.OpenBlock.{OpenBlock}
+use Rattle.compiler.proofs.Targets.{Aiming, as_many, completes, elses_wait, ends_close, first_waits, if_frame, ifs_open, next, Next, none, passes, repeats_open}
+
+-- ---- an open block as its frame, 0 for an if and the place of its body for a repeat, and its waiting record
+abbrev pub frame_of : OpenBlock → ℕ
+frame_of w = unwrap_or w.body 0
+
+abbrev pub waiting_of : OpenBlock → ℕ
+waiting_of w = w.waiting
+
+-- no body is at place 0, where the word of the repeat itself is at the earliest
+abbrev pub HasBody : OpenBlock → Type 0
+HasBody w = (b : ℕ) → w.body ≡ Some b → 0 < b
+
+some_of : (o : Option ℕ) → is_some o ≡ true → (b : ℕ) × (o ≡ Some b)
+some_of None e = cc
+some_of (Some b) e = (b, refl)
+
+none_of : (o : Option ℕ) → is_some o ≡ false → o ≡ None
+none_of None e = refl
+none_of (Some b) e = cc
+
+pub plain : (kind : RecordKind) → (kind ≡ Write) ⊎ ((kind ≡ Read) ⊎ (kind ≡ Delay)) → kind_number kind ≤ 3
+plain kind (inl e) = rw e (omega arith)
+plain kind (inr (inl e)) = rw e (omega arith)
+plain kind (inr (inr e)) = rw e (omega arith)
+
+-- ---- the entries of the table: those of earlier records, and 0 for the others
+abbrev kind_at : List ℕ → ℕ → ℕ
+kind_at script j = (record_at script (record_size * j)).kind
+
+pub record Entries (script : List ℕ) (table : List (Option ℕ)) (k : ℕ) : Type 0 where
+  pub words : (j : ℕ) → j < k → HasWord (get_or table j (Some 0)) (kind_at script j)
+  pub fresh : (j : ℕ) → k ≤ j → get_or table j (Some 0) ≡ Some 0
+
+module _ {script : List ℕ} {table : List (Option ℕ)} {k : ℕ} (m : Entries script table k) where
+  -- an earlier entry becomes a target above 0
+  aims_at : (w t : ℕ) → w < k → w < length table → 0 < t → Entries script (set table w (Some t)) k
+  aims_at w t l i z = record {
+    words = λ j b. elim (cases_eq j w) [
+      | inl e ↦ rw (e, get_or-set_same table w (Some t) (Some 0) i) (λ _. z)
+      | inr n ↦ rw (get_or-set_other table w j (Some t) (Some 0) n) (m.words j b)
+    ];
+    fresh = λ j b. get_or-set_other table w j (Some t) (Some 0) (λ e. omega arith) ∙ m.fresh j b;
+  }
+
+  -- the entry of record k becomes t
+  enters : (t : Option ℕ) → k < length table → HasWord t (kind_at script k) → Entries script (set table k t) (k + 1)
+  enters t i h = record {
+    words = λ j b. elim (cases_eq j k) [
+      | inl e ↦ rw (e, get_or-set_same table k t (Some 0) i) h
+      | inr n ↦ rw (get_or-set_other table k j t (Some 0) n) (m.words j (omega arith))
+    ];
+    fresh = λ j b. get_or-set_other table k j t (Some 0) (λ e. omega arith) ∙ m.fresh j (omega arith);
+  }
+
+  -- the entry of record k, which is not an end, stays 0 for now
+  goes_on : (kind_at script k ≡ 7 → ⊥) → Entries script table (k + 1)
+  goes_on h = record {
+    words = λ j b. elim (cases_eq j k) [
+      | inl e ↦ rw (e, m.fresh k (omega arith)) (λ q. absurd (h q))
+      | inr n ↦ m.words j (omega arith)
+    ];
+    fresh = λ j b. m.fresh j (omega arith);
+  }
 
 -- ---- what holds before record k
-pub record Filling (script : List ℕ) (count : ℕ) (table waiting starts : List ℕ) (depth place k : ℕ) : Type 0 where
-  pub counted : Counted script count
-  pub inside : k ≤ count
+pub record Filling (script : List ℕ) (table : List (Option ℕ)) (open_blocks : List OpenBlock) (place k : ℕ) : Type 0 where
+  pub counted : Counted script (record_count script)
   pub near : place ≤ k
-  pub deep : depth ≤ 16
+  pub started : 0 < k → 0 < place
   pub long : length table ≡ 1024
-  pub wide : (length waiting ≡ 16) × (length starts ≡ 16)
+  pub bodies : All HasBody open_blocks
+  pub entries : Entries script table k
   pub aiming :
-      Aiming (records_of script) (records_from (count - k) k script) table (stack_of depth starts) (stack_of depth waiting)
-      place k
+      Aiming (records_of script) (records_from (record_count script - k) k script) (target_numbers table) (map frame_of open_blocks)
+      (map waiting_of open_blocks) place k
 
 -- it holds at the start: no block is open and the table is all 0
-pub begins : (script table waiting starts : List ℕ) (count : ℕ) → count ≡ record_count script
-    → (script_refusal script).number ≡ 0 → table ≡ replicate 1024 0 → length waiting ≡ 16 → length starts ≡ 16
-    → Filling script count table waiting starts 0 0 0
+pub begins : (script : List ℕ) (table : List (Option ℕ)) → (script_refusal script).number ≡ 0 → table ≡ replicate 1024 (Some 0)
+    → Filling script table [] 0 0
 unfolding records_of
-begins script table waiting starts count e h t w s =
-    let c : count - 0 ≡ record_count script = omega arith in
+begins script table h t =
+    let c : record_count script - 0 ≡ record_count script = omega arith in
+    let fresh : (j : ℕ) → get_or table j (Some 0) ≡ Some 0 = λ j. rw t (replicate_at (Some 0) 1024 j) in
     record {
-      counted = counts script count e h;
-      inside = omega arith;
+      counted = counts script (record_count script) refl h;
       near = omega arith;
-      deep = omega arith;
-      long = ap length t ∙ length-replicate {A = ℕ} 1024 0;
-      wide = (w, s);
+      started = λ l. absurd (omega arith);
+      long = ap length t ∙ length-replicate {A = Option ℕ} 1024 (Some 0);
+      bodies = tt;
+      entries = record { words = λ j l. absurd (omega arith); fresh = λ j l. fresh j };
       aiming = record {
         blocks = [];
         accepted = rw c (accepted (records_of script) [] 0 (accepts script h).faultless);
         waits = none;
-        fresh = λ j l. rw t (replicate_at 0 1024 j);
+        fresh = λ j l. get_or-map (λ (t : Option ℕ). unwrap_or t 0) table j (Some 0) ∙ (rw (fresh j));
         aims = λ targets below rest. rw c at rest;
       };
     }
 
--- ---- one turn of the loop: record k and its kind
-pub record Turn (script : List ℕ) (count : ℕ) (table waiting starts : List ℕ) (depth place k kind : ℕ) : Type 0 where
-  pub filling : Filling script count table waiting starts depth place k
-  pub within : k < count
-  pub kind_is : kind ≡ (record_at script (record_size * k)).kind
-
-pub turn : {script : List ℕ} {count : ℕ} {table waiting starts : List ℕ} {depth place k kind : ℕ}
-    → Filling script count table waiting starts depth place k → k < count → kind ≡ (record_at script (record_size * k)).kind
-    → Turn script count table waiting starts depth place k kind
-turn f w k = record { filling = f; within = w; kind_is = k }
-
-either : (kind : ℕ) → 3 < kind → kind ≤ 5 → (kind ≡ 4) ⊎ (kind ≡ 5)
-either kind l m = pick (dec_lt kind 5)
-  where
-    pick : Dec (kind < 5) → (kind ≡ 4) ⊎ (kind ≡ 5)
-    pick (yes n) = inl (omega arith)
-    pick (no n) = inr (omega arith)
-
-module _ {script : List ℕ} {count : ℕ} {table waiting starts : List ℕ} {depth place k kind : ℕ}
-    (t : Turn script count table waiting starts depth place k kind) where
-  abbrev g : Filling script count table waiting starts depth place k
-  g = t.filling
-
+-- ---- record k
+module _ {script : List ℕ} {table : List (Option ℕ)} {open_blocks : List OpenBlock} {place k : ℕ}
+    (g : Filling script table open_blocks place k) (w : k < record_count script) where
   abbrev r : Record
   r = record_at script (record_size * k)
 
   abbrev rest : List Record
-  rest = records_from (count - (k + 1)) (k + 1) script
+  rest = records_from (record_count script - (k + 1)) (k + 1) script
 
-  is : (n : ℕ) → kind ≡ n → r.kind ≡ n
-  is n e = sym t.kind_is ∙ e
+  pub here : Aiming (records_of script) (r ∷ rest) (target_numbers table) (map frame_of open_blocks) (map waiting_of open_blocks) place k
+  here = rw (from_here script (record_count script) k w) at g.aiming
 
-  here : Aiming (records_of script) (r ∷ rest) table (stack_of depth starts) (stack_of depth waiting) place k
-  here = rw (from_here script count k t.within) at g.aiming
-
-  after : Next here.blocks r rest
+  pub after : Next here.blocks r rest
   after = next here.accepted
 
-  many : length (numbers here.blocks) ≡ depth
-  many = sym (as_many here.waits) ∙ stack_length depth starts
+  many : length (numbers here.blocks) ≡ length open_blocks
+  many = sym (as_many here.waits) ∙ length-map open_blocks frame_of
 
   -- ---- a write, a read or a delay
-  pub passed : kind ≤ 3 → Filling script count table waiting starts depth (place + 1) (k + 1)
+  pub passed : r.kind ≤ 3 → Filling script table open_blocks (place + 1) (k + 1)
   passed l = record {
     counted = g.counted;
-    inside = omega (arith, t.within);
     near = omega (arith, g.near);
-    deep = g.deep;
+    started = λ _. omega arith;
     long = g.long;
-    wide = g.wide;
-    aiming = passes here (rw t.kind_is at l);
+    bodies = g.bodies;
+    entries = goes_on g.entries (λ e. omega arith);
+    aiming = passes here l;
   }
 
   -- ---- a repeat or an if
-  pub room : 3 < kind → kind ≤ 5 → depth < 16
-  room l m = rw many at (after.room (pick (either kind l m)))
-    where
-      pick : (kind ≡ 4) ⊎ (kind ≡ 5) → (eqb r.kind 4 || eqb r.kind 5) ≡ true
-      pick (inl e) = rw (is 4 e)
-      pick (inr e) = rw (is 5 e)
+  pub room : (eqb r.kind 4 || eqb r.kind 5) ≡ true → length open_blocks < 16
+  room e = rw many at (after.room e)
 
-  pub opened : (start : ℕ) → 3 < kind → kind ≤ 5 → start ≡ cond (eqb kind 5) 0 (place + 1)
-      → Filling script count table (set waiting depth k) (set starts depth start) (depth + 1) (place + 1) (k + 1)
-  opened start l m s =
-      let n = room l m in
-      record {
-        counted = g.counted;
-        inside = omega (arith, t.within);
-        near = omega (arith, g.near);
-        deep = omega arith;
-        long = g.long;
-        wide = (simp length-set g.wide.0, simp length-set g.wide.1);
-        aiming =
-            rw (stack_push depth waiting k (omega (arith, g.wide)), stack_push depth starts start (omega (arith, g.wide)))
-            (pushed (either kind l m));
-      }
-    where
-      pushed : (kind ≡ 4) ⊎ (kind ≡ 5)
-          → Aiming (records_of script) rest table (start ∷ stack_of depth starts) (k ∷ stack_of depth waiting) (place + 1) (k + 1)
-      pushed (inl e) = let q : start ≡ place + 1 = s ∙ (rw e) in rw q (repeats_open here (is 4 e))
-      pushed (inr e) = let q : start ≡ 0 = s ∙ (rw e) in rw q (ifs_open here (is 5 e))
+  pub repeated : r.kind ≡ 4 → Filling script table (record { waiting = k; body = Some (place + 1) } ∷ open_blocks) (place + 1) (k + 1)
+  repeated e = record {
+    counted = g.counted;
+    near = omega (arith, g.near);
+    started = λ _. omega arith;
+    long = g.long;
+    bodies = (λ b q. let same = same_Some _ _ q in omega arith, g.bodies);
+    entries = goes_on g.entries (λ q. omega arith);
+    aiming = repeats_open here e;
+  }
+
+  pub tested : r.kind ≡ 5 → Filling script table (record { waiting = k; body = None } ∷ open_blocks) (place + 1) (k + 1)
+  tested e = record {
+    counted = g.counted;
+    near = omega (arith, g.near);
+    started = λ _. omega arith;
+    long = g.long;
+    bodies = (λ b q. absurd (none-some b q), g.bodies);
+    entries = goes_on g.entries (λ q. omega arith);
+    aiming = ifs_open here e;
+  }
 
   -- ---- an else or an end
-  pub in_block : 5 < kind → 0 < depth
-  in_block l = rw many at (after.in_block (pick (dec_lt kind 7)))
-    where
-      pick : Dec (kind < 7) → (eqb r.kind 6 || eqb r.kind 7) ≡ true
-      pick (yes n) = rw (is 6 (omega arith))
-      pick (no n) = rw (is 7 (omega (arith, after.most, t.kind_is)))
+  pub in_block : (eqb r.kind 6 || eqb r.kind 7) ≡ true → 0 < length open_blocks
+  in_block e = rw many at (after.in_block e)
 
-  sized : k < length table
-  sized = omega (arith, g.long, g.counted, t.within)
+  within : k < length table
+  within = let f = g.counted.few in omega (arith, g.long)
 
-  module _ (o : 0 < depth) where
-    abbrev frame : ℕ
-    frame = get_or starts (depth - 1) 0
+  sized : k < length (target_numbers table)
+  sized = rw length-map within
 
-    abbrev record_of : ℕ
-    record_of = get_or waiting (depth - 1) 0
+-- its block is the innermost
+module _ {script : List ℕ} {table : List (Option ℕ)} {x : OpenBlock} {outer_blocks : List OpenBlock} {place k : ℕ}
+    (g : Filling script table (x ∷ outer_blocks) place k) (w : k < record_count script) where
+  pub waits_before : x.waiting < k
+  waits_before = first_waits g.aiming.waits
 
-    top :
-        Aiming (records_of script) (r ∷ rest) table (frame ∷ stack_of (depth - 1) starts)
-        (record_of ∷ stack_of (depth - 1) waiting) place k
-    top = rw (stack_top depth waiting o, stack_top depth starts o) at here
+  pub elsed : (record_at script (record_size * k)).kind ≡ 6
+      → Filling script (set table x.waiting (Some (place + 1))) (record { waiting = k; body = None } ∷ outer_blocks) (place + 1) (k + 1)
+  elsed e =
+      let f : frame_of x ≡ 0 = if_frame (here g w).waits ((after g w).in_if (rw e)) in
+      let l = waits_before in
+      record {
+        counted = g.counted;
+        near = omega (arith, g.near);
+        started = λ _. omega arith;
+        long = simp length-set g.long;
+        bodies = (λ b q. absurd (none-some b q), g.bodies.1);
+        entries = aims_at (goes_on g.entries (λ q. omega arith)) x.waiting (place + 1) (omega arith) (omega (arith, within g w)) (omega arith);
+        aiming = rw map-set (rw f at (elses_wait (here g w) (sized g w) e));
+      }
 
-    pub waits_before : get_or waiting (depth - 1) 0 < k
-    waits_before = first_waits top.waits
+  -- an end, after which the next word is at place n
+  ended : (n : ℕ) → (record_at script (record_size * k)).kind ≡ 7 → HasWord x.body 7 → n ≡ place_after_record (frame_of x) place 7
+      → n ≤ place + 1 → place ≤ n → Filling script (set (set table k x.body) x.waiting (Some n)) outer_blocks n (k + 1)
+  ended n e h p most least =
+      let l = waits_before in
+      let z = g.started (omega arith) in
+      record {
+        counted = g.counted;
+        near = omega (arith, g.near);
+        started = λ _. omega arith;
+        long = simp (length-set, length-set) g.long;
+        bodies = g.bodies.1;
+        entries = aims_at (enters g.entries x.body (within g w) (rw e h)) x.waiting n (omega arith) (rw length-set (omega (arith, within g w))) (omega arith);
+        aiming = rw (map-set, map-set) (ends_close (here g w) (sized g w) n e p);
+      }
 
-    pub elsed : kind ≡ 6
-        → Filling script count (set table (get_or waiting (depth - 1) 0) (place + 1)) (set waiting (depth - 1) k) starts depth
-        (place + 1) (k + 1)
-    elsed e = record {
-      counted = g.counted;
-      inside = omega (arith, t.within);
-      near = omega (arith, g.near);
-      deep = g.deep;
-      long = simp length-set g.long;
-      wide = (simp length-set g.wide.0, g.wide.1);
-      aiming = rw (replaced, stack_top depth starts o) (elses_wait top sized (is 6 e));
-    }
-      where
-        replaced : stack_of depth (set waiting (depth - 1) k) ≡ k ∷ stack_of (depth - 1) waiting
-        replaced = stack_set_top depth waiting k o (omega (arith, g.wide, g.deep))
+  -- the end of an if becomes no word
+  pub if_ended : (record_at script (record_size * k)).kind ≡ 7 → is_some x.body ≡ false
+      → Filling script (set (set table k x.body) x.waiting (Some place)) outer_blocks place (k + 1)
+  if_ended e b = let n = none_of x.body b in ended place e (rw n refl) (rw n) (omega arith) (omega arith)
 
-    pub ended : (place_after : ℕ) → 5 < kind → (kind ≡ 6 → ⊥) → place_after ≡ place_after_record (get_or starts (depth - 1) 0) place 7
-        → Filling script count (set (set table k (get_or starts (depth - 1) 0)) (get_or waiting (depth - 1) 0) place_after) waiting
-        starts (depth - 1) place_after (k + 1)
-    ended place_after l n p = record {
-      counted = g.counted;
-      inside = omega (arith, t.within);
-      near = omega (arith, g.near, p, one_on (eqb frame 0));
-      deep = omega (arith, g.deep);
-      long = simp length-set g.long;
-      wide = g.wide;
-      aiming = ends_close top sized place_after (is 7 (omega (arith, after.most, t.kind_is, n))) p;
-    }
-      where
-        one_on : (b : Bool) → cond (not b) (suc place) place ≤ place + 1
-        one_on true = omega arith
-        one_on false = omega arith
+  pub repeat_ended : (record_at script (record_size * k)).kind ≡ 7 → is_some x.body ≡ true
+      → Filling script (set (set table k x.body) x.waiting (Some (place + 1))) outer_blocks (place + 1) (k + 1)
+  repeat_ended e b =
+      let s = some_of x.body b in
+      let above : 0 < s.0 = g.bodies.0 s.0 s.1 in
+      ended (place + 1) e (rw s.1 (λ _. above)) (rw (s.1, ne_eqb s.0 0 (λ z. omega arith), add-one)) (omega arith) (omega arith)
 
 -- ---- after the last record
-pub filled : {script : List ℕ} {count : ℕ} {table waiting starts : List ℕ} {depth place k : ℕ}
-    → Filling script count table waiting starts depth place k → count ≤ k → TargetsFrom table 0 [] 0 (records_of script)
-filled {script = script} {count = count} {k = k} g h = completes (rw (after_last_lem script count k h) at g.aiming)
+module _ {script : List ℕ} {table : List (Option ℕ)} {open_blocks : List OpenBlock} {place k : ℕ}
+    (g : Filling script table open_blocks place k) (h : record_count script ≤ k) where
+  pub filled : TargetsFrom (target_numbers table) 0 [] 0 (records_of script)
+  filled = completes (rw (after_last_lem script (record_count script) k h) at g.aiming)
+
+  pub all_words : (j : ℕ) → j < record_count script → HasWord (get_or table j (Some 0)) (kind_at script j)
+  all_words j l = g.entries.words j (omega arith)

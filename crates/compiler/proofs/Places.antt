@@ -5,31 +5,37 @@ use mathlib.Core.List.{List, [], ◌∷◌}
 use lib.ListN.{length}
 use native.Mathlib.Omega.{arith}
 use Rattle.record.specs.declared.Record.{Record}
-use Rattle.script.specs.Nested.{Body, done, write, read, delay, repeat, if, if_else, reading_of, body_in, script_body, else_record, end_record, flat}
+use Rattle.script.specs.Nested.{Body, done, write, read, delay, repeat, if, if_else, reading_of, body_in, script_body, flat}
 use Rattle.script.specs.Records.{records_of}
 use Rattle.script.specs.Refusals.{first_fault, script_refusal, word_count, words_in}
+use Rattle.script.specs.Grammar.{words_for}
 use Rattle.script.proofs.Flat.{accepts, reading_flat}
+use Rattle.script.proofs.Grammar.{words_flat}
 use Rattle.compiler.specs.Words.{place_after, emit, halt, word, words_of}
+
+-- a body takes one place for each of its words
+after_words : (b : Body) (at : ℕ) → place_after at b ≡ at + words_for b
+after_words done at = omega arith
+after_words (write p w v rest) at = let i = after_words rest (suc at) in omega arith
+after_words (read p w rest) at = let i = after_words rest (suc at) in omega arith
+after_words (delay n rest) at = let i = after_words rest (suc at) in omega arith
+after_words (repeat n b rest) at =
+    let i = after_words b (suc at) in
+    let j = after_words rest (suc (place_after (suc at) b)) in
+    omega arith
+after_words (if p w m b rest) at =
+    let i = after_words b (suc at) in
+    let j = after_words rest (place_after (suc at) b) in
+    omega arith
+after_words (if_else p w m b c rest) at =
+    let i = after_words b (suc at) in
+    let j = after_words c (suc (place_after (suc at) b)) in
+    let k = after_words rest (place_after (suc (place_after (suc at) b)) c) in
+    omega arith
 
 -- the place after a body is not before its first place
 pub after_from : (b : Body) (at : ℕ) → at ≤ place_after at b
-after_from done at = omega arith
-after_from (write p w v rest) at = let i = after_from rest (suc at) in omega arith
-after_from (read p w rest) at = let i = after_from rest (suc at) in omega arith
-after_from (delay n rest) at = let i = after_from rest (suc at) in omega arith
-after_from (repeat n b rest) at =
-    let i = after_from b (suc at) in
-    let j = after_from rest (suc (place_after (suc at) b)) in
-    omega arith
-after_from (if p w m b rest) at =
-    let i = after_from b (suc at) in
-    let j = after_from rest (place_after (suc at) b) in
-    omega arith
-after_from (if_else p w m b c rest) at =
-    let i = after_from b (suc at) in
-    let j = after_from c (suc (place_after (suc at) b)) in
-    let k = after_from rest (place_after (suc (place_after (suc at) b)) c) in
-    omega arith
+after_from b at = omega (arith, after_words b at)
 
 -- a body has one word for each place from its first to the one after it
 pub emit_length : (b : Body) (at : ℕ) (ws : List Record) → length (emit at b ws) + at ≡ place_after at b + length ws
@@ -54,34 +60,12 @@ emit_length (if_else p w m b c rest) at ws =
     let k = emit_length rest (place_after middle c) ws in
     omega arith
 
--- the scan counts one word for each place of a body
-pub count_flat : (b : Body) (blocks : List ℕ) (at : ℕ) (tl : List Record)
-    → word_count blocks (flat b tl) + at ≡ place_after at b + word_count blocks tl
-count_flat done blocks at tl = omega arith
-count_flat (write p w v rest) blocks at tl = let i = count_flat rest blocks (suc at) tl in omega arith
-count_flat (read p w rest) blocks at tl = let i = count_flat rest blocks (suc at) tl in omega arith
-count_flat (delay n rest) blocks at tl = let i = count_flat rest blocks (suc at) tl in omega arith
-count_flat (repeat n b rest) blocks at tl =
-    let i = count_flat b (4 ∷ blocks) (suc at) (end_record ∷ flat rest tl) in
-    let j = count_flat rest blocks (suc (place_after (suc at) b)) tl in
-    omega arith
-count_flat (if p w m b rest) blocks at tl =
-    let i = count_flat b (5 ∷ blocks) (suc at) (end_record ∷ flat rest tl) in
-    let j = count_flat rest blocks (place_after (suc at) b) tl in
-    omega arith
-count_flat (if_else p w m b c rest) blocks at tl =
-    let middle = suc (place_after (suc at) b) in
-    let i = count_flat b (5 ∷ blocks) (suc at) (else_record ∷ flat c (end_record ∷ flat rest tl)) in
-    let j = count_flat c (6 ∷ blocks) middle (end_record ∷ flat rest tl) in
-    let k = count_flat rest blocks (place_after middle c) tl in
-    omega arith
-
 -- for an accepted list of records, the scan counts the words of the body and the halt
 pub count_records : (rs : List Record) → (first_fault [] 0 rs).number ≡ 0
     → word_count [] rs ≡ suc (place_after 0 (body_in (reading_of rs)))
 count_records rs h =
     let b = body_in (reading_of rs) in
-    let i : word_count [] (flat b []) ≡ suc (place_after 0 b) = let c = count_flat b [] 0 [] in omega arith in
+    let i : word_count [] (flat b []) ≡ suc (place_after 0 b) = omega (arith, words_flat b [] [], after_words b 0) in
     ap (λ (l : List Record). word_count [] l) (reading_flat rs h) ∙ i
 
 -- the scan counts exactly the words of an accepted script

@@ -9,8 +9,7 @@ use borrow.Author.Tests.{eqb-true, eqb-false, le-ltb, lt-ltb, ltb-false, ltb-tru
 use lib.Dec.{eqb, ltb}
 use lib.ListN.{length}
 use native.Mathlib.Omega.{arith}
-use Rattle.outcome.specs.Refusal.{refusal}
-use Rattle.outcome.specs.declared.Refusal.{Refusal}
+use Rattle.outcome.specs.Refusal.{Refusal, refusal}
 use Rattle.script.proofs.Faults.{FirstFault, closed, fault_bounded, first_or_none, first_refused, good_length_lem, length_good, none_refused}
 use Rattle.script.proofs.Grammar.{records_length}
 use Rattle.script.specs.Faults.{FirstFaultAt, GoodLength, NoFault, open_at_end}
@@ -76,7 +75,7 @@ module _ (script buffer : List ℕ) where
   scan_open n o =
       let e = ne_eqb (innermost (open_at_end [] (records_of script))) 0 (λ z. o (closed (records_of script) z)) in
       let k = records_length script in
-      let p : 0 + length (records_of script) ≡ record_count script = omega (arith, k) in
+      let p : 0 + length (records_of script) ≡ record_count script = omega arith in
       none_refused (records_of script) [] 0 n ∙ (rw (e, p))
 
   scan_fault : (f : FirstFault [] (records_of script)) → first_fault [] 0 (records_of script) ≡ refusal f.number f.at
@@ -89,7 +88,7 @@ module _ (script buffer : List ℕ) where
   is_given (wrong_length_lem l) = rw l
   is_given (faulty l f) =
       let b = (fault_bounded f.number f.at [] (records_of script) f.first.has).0 in
-      let e = ne_eqb f.number 0 (λ z. omega (arith, b, z)) in
+      let e = ne_eqb f.number 0 (λ z. omega arith) in
       rw (l, scan_fault f, e, e)
   is_given (unclosed l n o) = rw (l, scan_open n o)
   is_given (many l n o w) = rw (l, scan_clear n o, lt-ltb 1024 (words_in script) w)
@@ -125,11 +124,11 @@ module _ (script buffer : List ℕ) where
         pick : Verdict script buffer → (p ≡ 0) × (GoodLength script → ⊥)
         pick (wrong_length_lem l) =
             (sym (place_of (wrong_length_lem l) g), λ good. true≢false (sym l ∙ length_good script good))
-        pick (faulty l f) = let b = (fault_number f).0 in other (faulty l f) g (λ e. omega (arith, b, e))
-        pick (unclosed l n o) = other (unclosed l n o) g (λ e. omega (arith, e))
-        pick (many l n o w) = other (many l n o w) g (λ e. omega (arith, e))
-        pick (short l n o w r) = other (short l n o w r) g (λ e. omega (arith, e))
-        pick (fine l n o w r) = other (fine l n o w r) g (λ e. omega (arith, e))
+        pick (faulty l f) = let b = (fault_number f).0 in other (faulty l f) g (λ e. omega arith)
+        pick (unclosed l n o) = other (unclosed l n o) g (λ e. omega arith)
+        pick (many l n o w) = other (many l n o w) g (λ e. omega arith)
+        pick (short l n o w r) = other (short l n o w r) g (λ e. omega arith)
+        pick (fine l n o w r) = other (fine l n o w r) g (λ e. omega arith)
 
     length_gives : (p ≡ 0) × (GoodLength script → ⊥) → Gives script buffer 1 p
     length_gives c = pick (bad_length script) refl
@@ -142,12 +141,12 @@ module _ (script buffer : List ℕ) where
     fault_refused n low high g = pick verdict
       where
         pick : Verdict script buffer → GoodLength script × FirstFaultAt n [] (records_of script) p
-        pick (wrong_length_lem l) = other (wrong_length_lem l) g (λ e. omega (arith, low, e))
+        pick (wrong_length_lem l) = other (wrong_length_lem l) g (λ e. omega arith)
         pick (faulty l f) = (good_length_lem script l, rw (number_of (faulty l f) g, place_of (faulty l f) g) at f.first)
-        pick (unclosed l n o) = other (unclosed l n o) g (λ e. omega (arith, high, e))
-        pick (many l n o w) = other (many l n o w) g (λ e. omega (arith, high, e))
-        pick (short l n o w r) = other (short l n o w r) g (λ e. omega (arith, high, e))
-        pick (fine l n o w r) = other (fine l n o w r) g (λ e. omega (arith, low, e))
+        pick (unclosed l n o) = other (unclosed l n o) g (λ e. omega arith)
+        pick (many l n o w) = other (many l n o w) g (λ e. omega arith)
+        pick (short l n o w r) = other (short l n o w r) g (λ e. omega arith)
+        pick (fine l n o w r) = other (fine l n o w r) g (λ e. omega arith)
 
     fault_gives : (n : ℕ) → GoodLength script × FirstFaultAt n [] (records_of script) p → Gives script buffer n p
     fault_gives n c = gives (faulty (length_good script c.0) (record { number = n; at = p; first = c.1 }))
@@ -160,23 +159,23 @@ module _ (script buffer : List ℕ) where
         pick : Verdict script buffer
             → (p ≡ record_count script) × GoodLength script × NoFault [] (records_of script)
             × (open_at_end [] (records_of script) ≡ [] → ⊥)
-        pick (wrong_length_lem l) = other (wrong_length_lem l) g (λ e. omega (arith, e))
-        pick (faulty l f) = let b = (fault_number f).1 in other (faulty l f) g (λ e. omega (arith, b, e))
+        pick (wrong_length_lem l) = other (wrong_length_lem l) g (λ e. omega arith)
+        pick (faulty l f) = let b = (fault_number f).1 in other (faulty l f) g (λ e. omega arith)
         pick (unclosed l n o) = (sym (place_of (unclosed l n o) g), good_length_lem script l, n, o)
-        pick (many l n o w) = other (many l n o w) g (λ e. omega (arith, e))
-        pick (short l n o w r) = other (short l n o w r) g (λ e. omega (arith, e))
-        pick (fine l n o w r) = other (fine l n o w r) g (λ e. omega (arith, e))
+        pick (many l n o w) = other (many l n o w) g (λ e. omega arith)
+        pick (short l n o w r) = other (short l n o w r) g (λ e. omega arith)
+        pick (fine l n o w r) = other (fine l n o w r) g (λ e. omega arith)
 
     words_refused : Gives script buffer 8 p → (p ≡ record_count script) × Closed script × (1024 < words_in script)
     words_refused g = pick verdict
       where
         pick : Verdict script buffer → (p ≡ record_count script) × Closed script × (1024 < words_in script)
-        pick (wrong_length_lem l) = other (wrong_length_lem l) g (λ e. omega (arith, e))
-        pick (faulty l f) = let b = (fault_number f).1 in other (faulty l f) g (λ e. omega (arith, b, e))
-        pick (unclosed l n o) = other (unclosed l n o) g (λ e. omega (arith, e))
+        pick (wrong_length_lem l) = other (wrong_length_lem l) g (λ e. omega arith)
+        pick (faulty l f) = let b = (fault_number f).1 in other (faulty l f) g (λ e. omega arith)
+        pick (unclosed l n o) = other (unclosed l n o) g (λ e. omega arith)
         pick (many l n o w) = (sym (place_of (many l n o w) g), (good_length_lem script l, n, o), w)
-        pick (short l n o w r) = other (short l n o w r) g (λ e. omega (arith, e))
-        pick (fine l n o w r) = other (fine l n o w r) g (λ e. omega (arith, e))
+        pick (short l n o w r) = other (short l n o w r) g (λ e. omega arith)
+        pick (fine l n o w r) = other (fine l n o w r) g (λ e. omega arith)
 
     buffer_refused : Gives script buffer 9 p
         → (p ≡ record_count script) × Closed script × (words_in script ≤ 1024) × (length buffer < 12 * words_in script)
@@ -184,12 +183,12 @@ module _ (script buffer : List ℕ) where
       where
         pick : Verdict script buffer
             → (p ≡ record_count script) × Closed script × (words_in script ≤ 1024) × (length buffer < 12 * words_in script)
-        pick (wrong_length_lem l) = other (wrong_length_lem l) g (λ e. omega (arith, e))
-        pick (faulty l f) = let b = (fault_number f).1 in other (faulty l f) g (λ e. omega (arith, b, e))
-        pick (unclosed l n o) = other (unclosed l n o) g (λ e. omega (arith, e))
-        pick (many l n o w) = other (many l n o w) g (λ e. omega (arith, e))
+        pick (wrong_length_lem l) = other (wrong_length_lem l) g (λ e. omega arith)
+        pick (faulty l f) = let b = (fault_number f).1 in other (faulty l f) g (λ e. omega arith)
+        pick (unclosed l n o) = other (unclosed l n o) g (λ e. omega arith)
+        pick (many l n o w) = other (many l n o w) g (λ e. omega arith)
         pick (short l n o w r) = (sym (place_of (short l n o w r) g), (good_length_lem script l, n, o), w, r)
-        pick (fine l n o w r) = other (fine l n o w r) g (λ e. omega (arith, e))
+        pick (fine l n o w r) = other (fine l n o w r) g (λ e. omega arith)
 
     pub refused_exactly_lem : RefusedExactly script buffer p
     refused_exactly_lem = record {

@@ -1,21 +1,26 @@
 -- Why the table of targets is right, over lists instead of arrays. Before each record, every earlier record has its target in
 -- the table or is waiting for it. For a waiting record, looking ahead from here finds the same place as looking ahead from
 -- that record did. At the else or the end of its block this place is known, and is written.
-use Prim.Native.Nat.{ℕ, suc, ◌+◌, ◌≤◌, ◌<◌}
+use Prim.Native.Nat.{ℕ, zero, suc, ◌+◌, ◌*◌, ◌≤◌, ◌<◌}
 use mathlib.Core.Path.{◌≡◌, refl, ap, ◌∙◌}
 use mathlib.Core.Bool.{Bool, true, false, cond, not, ◌||◌, false≢true}
 use mathlib.Core.List.{List, [], ◌∷◌}
 use native.Mathlib.Numerals.{add-one}
+use native.Mathlib.Decide.{dec_lt}
 use native.Mathlib.Omega.{arith}
 use borrow.Author.Tests.{eq-eqb, eqb-true, eqb-false, ne_eqb}
 use lib.Dec.{eqb}
 use lib.ListN.{length, get_or, set, length-set}
 use lib.Seq.{get_or-set_same, get_or-set_other}
 use Rattle.record.specs.declared.Record.{Record}
-use Rattle.script.specs.Refusals.{innermost, open_after, outer}
+use Rattle.record.specs.Record.{record_at, record_size}
+use Rattle.script.specs.Records.{record_count, records_from, records_of}
+use Rattle.script.specs.Refusals.{innermost, open_after, outer, script_refusal}
 use Rattle.script.proofs.Flat.{
   Accepted,
   Block,
+  accepted,
+  accepts,
   delays,
   elses,
   ends,
@@ -37,6 +42,7 @@ pub record Next (bs : List Block) (r : Record) (rs : List Record) : Type 0 where
   pub blocks : List Block
   pub accepted : Accepted blocks rs
   pub opened : numbers blocks ≡ open_after (numbers bs) r.kind
+  pub least : 1 ≤ r.kind
   pub most : r.kind ≤ 7
   pub room : (eqb r.kind 4 || eqb r.kind 5) ≡ true → length (numbers bs) < 16
   pub in_if : eqb r.kind 6 ≡ true → innermost (numbers bs) ≡ 5
@@ -46,13 +52,32 @@ never : {A : Type 0} → false ≡ true → A
 never e = absurd (false≢true e)
 
 pub next : {bs : List Block} {r : Record} {rs : List Record} → Accepted bs (r ∷ rs) → Next bs r rs
-next (writes {bs = bs} a b x) = record { blocks = bs; accepted = x; opened = refl; most = omega arith; room = never; in_if = never; in_block = never }
-next (reads {bs = bs} a x) = record { blocks = bs; accepted = x; opened = refl; most = omega arith; room = never; in_if = never; in_block = never }
-next (delays {bs = bs} a x) = record { blocks = bs; accepted = x; opened = refl; most = omega arith; room = never; in_if = never; in_block = never }
-next (repeats {bs = bs} a l b x) = record { blocks = looped ∷ bs; accepted = x; opened = refl; most = omega arith; room = λ e. l; in_if = never; in_block = never }
-next (tests {bs = bs} a b l x) = record { blocks = unelsed ∷ bs; accepted = x; opened = refl; most = omega arith; room = λ e. l; in_if = never; in_block = never }
-next (elses {bs = bs} x) = record { blocks = with_else ∷ bs; accepted = x; opened = refl; most = omega arith; room = never; in_if = λ e. refl; in_block = λ e. omega arith }
-next (ends {bs = bs} x) = record { blocks = bs; accepted = x; opened = refl; most = omega arith; room = never; in_if = never; in_block = λ e. omega arith }
+next (writes {bs = bs} a b x) = record { blocks = bs; accepted = x; opened = refl; least = omega arith; most = omega arith; room = never; in_if = never; in_block = never }
+next (reads {bs = bs} a x) = record { blocks = bs; accepted = x; opened = refl; least = omega arith; most = omega arith; room = never; in_if = never; in_block = never }
+next (delays {bs = bs} a x) = record { blocks = bs; accepted = x; opened = refl; least = omega arith; most = omega arith; room = never; in_if = never; in_block = never }
+next (repeats {bs = bs} a l b x) = record { blocks = looped ∷ bs; accepted = x; opened = refl; least = omega arith; most = omega arith; room = λ e. l; in_if = never; in_block = never }
+next (tests {bs = bs} a b l x) = record { blocks = unelsed ∷ bs; accepted = x; opened = refl; least = omega arith; most = omega arith; room = λ e. l; in_if = never; in_block = never }
+next (elses {bs = bs} x) = record { blocks = with_else ∷ bs; accepted = x; opened = refl; least = omega arith; most = omega arith; room = never; in_if = λ e. refl; in_block = λ e. omega arith }
+next (ends {bs = bs} x) = record { blocks = bs; accepted = x; opened = refl; least = omega arith; most = omega arith; room = never; in_if = never; in_block = λ e. omega arith }
+
+-- every record of an accepted script has one of the seven kinds
+module _ (bytes : List ℕ) (k : ℕ) where
+  abbrev kind_at : ℕ
+  kind_at = (record_at bytes (record_size * k)).kind
+
+  known : (n place : ℕ) {bs : List Block} → Accepted bs (records_from n place bytes) → place ≤ k → k < place + n
+      → (1 ≤ kind_at) × (kind_at ≤ 7)
+  known zero place a l m = absurd (omega arith)
+  known (suc n) place a l m =
+      let x = next a in
+      elim (dec_lt place k) [
+        | yes y ↦ known n (suc place) x.accepted (omega arith) (omega arith)
+        | no y ↦ let here : place ≡ k = omega arith in (rw here at x.least, rw here at x.most)
+      ]
+
+  pub kind_known : (script_refusal bytes).number ≡ 0 → k < record_count bytes → (1 ≤ kind_at) × (kind_at ≤ 7)
+  unfolding records_of
+  kind_known h l = known (record_count bytes) 0 (accepted (records_of bytes) [] 0 (accepts bytes h).faultless) (omega arith) (omega arith)
 
 -- ---- the open blocks, innermost first, each with its frame and its waiting record
 -- records of outer blocks have smaller numbers; the frame of an if without an else (5) is 0
@@ -71,7 +96,7 @@ first_waits (more l e x) = l
 others_wait : {bs fs ws : List ℕ} {f w k : ℕ} → Waits bs (f ∷ fs) (w ∷ ws) k → Waits (outer bs) fs ws w
 others_wait (more l e x) = x
 
-if_frame : {bs fs ws : List ℕ} {f w k : ℕ} → Waits bs (f ∷ fs) (w ∷ ws) k → innermost bs ≡ 5 → f ≡ 0
+pub if_frame : {bs fs ws : List ℕ} {f w k : ℕ} → Waits bs (f ∷ fs) (w ∷ ws) k → innermost bs ≡ 5 → f ≡ 0
 if_frame (more l e x) i = e i
 
 pub as_many : {bs fs ws : List ℕ} {k : ℕ} → Waits bs fs ws k → length fs ≡ length bs

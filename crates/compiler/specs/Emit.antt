@@ -1,10 +1,10 @@
 -- A second definition of a script's words: one pass over the flat list of records, which looks ahead for the target of each block.
 -- It gives the words of Words.antt (proofs/Ahead.antt). The code does not look ahead; it fills a table with the same targets
 -- (proofs/Targets.antt). Only contracts and proofs inside this crate use this file.
-use Rattle.std.specs.Prelude.{ℕ, suc, ◌≡◌, Bool, cond, not, ◌&&◌, ◌||◌, List, [], ◌∷◌, eqb, get_or}
-use Rattle.record.specs.WordKind as wordKind
+use Rattle.std.specs.Prelude.{ℕ, suc, ◌≡◌, ◌<◌, Bool, cond, not, ◌&&◌, ◌||◌, List, [], ◌∷◌, eqb, get_or, map, Option, None, Some, unwrap_or}
 use Rattle.record.specs.declared.Record.{Record}
 use Rattle.script.specs.Kind as kind
+use Rattle.script.specs.Kinds.{word_kind_for}
 use Rattle.script.specs.Refusals.{innermost, outer}
 use Rattle.compiler.specs.Words.{halt, word}
 
@@ -33,12 +33,6 @@ look_ahead (f ∷ fs) place (r ∷ rs) =
     look_ahead (frames_after (f ∷ fs) place r.kind) (place_after_record f place r.kind) rs
 
 -- ---- the word of a record, from its innermost frame and the place found by looking ahead (lead)
--- an if becomes a test, an else a jump, the end of a repeat a loop end; the other kinds keep their number
-abbrev pub word_kind_for : ℕ → ℕ
-word_kind_for k =
-    cond (eqb k kind.if) wordKind.test
-    (cond (eqb k kind.else) wordKind.jump (cond (eqb k kind.end) wordKind.loop_end k))
-
 -- "Enter aims behind its loop end, loop end at its body, test behind its else's jump or at its end, else at its end."
 abbrev pub target_for : ℕ → ℕ → ℕ → ℕ
 target_for frame lead k =
@@ -64,3 +58,11 @@ TargetsFrom targets k frames place [] = Unit {0}
 TargetsFrom targets k frames place (r ∷ rs) =
     (get_or targets k 0 ≡ target_for (innermost frames) (look_ahead [] (suc place) rs) r.kind)
     × TargetsFrom targets (suc k) (frames_after frames place r.kind) (place_after_record (innermost frames) place r.kind) rs
+
+-- ---- the table has an entry for every record that becomes a word: all but the end of an if
+abbrev pub target_numbers : List (Option ℕ) → List ℕ
+target_numbers targets = map (λ t. unwrap_or t 0) targets
+
+abbrev pub HasWord : Option ℕ → ℕ → Type 0
+HasWord None k = k ≡ kind.end
+HasWord (Some target) k = k ≡ kind.end → 0 < target

@@ -3,133 +3,99 @@
 // to 8. See docs/CHIP.md, "Words" and "Refusals".
 #![tactic(auto)]
 
-ghost use Rattle.std.specs.Prelude.{◌≡◌, cond, [], ◌++◌, ◌+◌, ◌*◌, ◌≤◌, ◌/◌, eqb, ltb, length, take, drop, replicate};
-ghost use Rattle.record.specs.Record.{bytes_of, most_records, record_size};
-ghost use Rattle.script.specs.Kind as recordKind;
-ghost use Rattle.script.specs.Records.{records_of};
+ghost use Rattle.std.specs.Prelude.{◌≡◌, [], ℕ, ◌++◌, ◌+◌, ◌*◌, ◌<◌, ◌≤◌, get_or, ltb, length, take, drop, replicate};
+ghost use Rattle.record.specs.Record.{bytes_of, most_records, record_at, record_size};
+ghost use Rattle.record.specs.WordKinds.{word_kind_number};
+ghost use Rattle.script.specs.Kinds.{kind_number};
+ghost use Rattle.script.specs.Records.{record_count, records_of};
 ghost use Rattle.script.specs.Refusals.{script_refusal};
-ghost use Rattle.compiler.specs.Compile.{compile_result, image_after};
-ghost use Rattle.compiler.specs.Emit.{TargetsFrom, emits_word, place_after_record, word_kind_for};
+ghost use Rattle.compiler.specs.Compile.{compile_result, compiled, image_after};
+ghost use Rattle.compiler.specs.Emit.{HasWord, TargetsFrom, target_numbers};
 ghost use Rattle.compiler.specs.Words.{word, image_bytes, words_of};
 
-use record::{Record, word_kind};
-
-// Refusal 0 and the number of words written, or a refusal with its place.
-#[derive(Clone, Copy)]
-pub struct CompileResult {
-    pub refusal: u32,
-    pub place: u32,
-    pub words: u32,
-}
+use lists::array_stack::ArrayStack;
+use outcome::{RefusalKind, Refused};
+use record::Record;
+use record::word_kind::WordKind;
+use script::kind::{RecordKind, kind_of};
 
 // ---- targets
 
-// What is kept of a block while it is open: 0 for an if, the place of its body for a repeat.
-fn start_of(kind: u32, body: u32) -> u32
-    ensures { result ≡ cond (eqb kind recordKind.if) 0 body }
-{
-    if kind == script::IF {
-        return 0;
-    }
-    body
-}
-
-// The place after a block whose end is reached at `place`. The end of an if becomes no word.
-fn place_after_end(start: u32, place: u32) -> u32
-    requires { place ≤ most_records }
-    ensures { result ≡ place_after_record start place recordKind.end }
-{
-    if start == 0 {
-        return place;
-    }
-    place + 1
+// An open block: the record whose target is still missing and, for a repeat, the place of its body.
+#[derive(Clone, Copy)]
+struct OpenBlock {
+    waiting: usize,
+    body: Option<u32>,
 }
 
 // Fills in the target of each record's word, in one pass. A loop end jumps back to its body. An enter, a test and the jump of an
 // else jump forward, so their targets are filled in later: at the end of the block or, for a test, at its else.
-fn fill_targets(script: &[u8], count: usize, targets: &mut [u32; Record::MOST])
-    requires count_value { (count ≡ length script.now / record_size) × ((script_refusal script.now).number ≡ 0) }
-    requires targets_value { targets.old ≡ replicate most_records 0 }
-    ensures { TargetsFrom targets.new 0 [] 0 (records_of script.now) }
+// The end of an if becomes no word, and has none. The targets are a table beside the script, because the records are bytes of the caller.
+fn fill_targets(script: &[u8], targets: &mut [Option<u32>; Record::MOST])
+    requires accepted { (script_refusal script.now).number ≡ 0 }
+    requires empty { targets.old ≡ replicate most_records (Some 0) }
+    ensures targets { TargetsFrom (target_numbers targets.new) 0 [] 0 (records_of script.now) }
+    ensures words { (k : ℕ) → k < record_count script.now → HasWord (get_or targets.new k (Some 0)) (record_at script.now (record_size * k)).kind }
 {
-    // The open blocks, outermost first: the record whose target is still missing, and the value of `start_of`.
-    let mut waiting: [usize; script::MOST_BLOCKS] = [0; script::MOST_BLOCKS];
-    let mut starts: [u32; script::MOST_BLOCKS] = [0; script::MOST_BLOCKS];
-    let mut depth: usize = 0;
+    let mut open: ArrayStack<OpenBlock, { script::MOST_BLOCKS }> = ArrayStack::new(OpenBlock {
+        waiting: 0,
+        body: None,
+    });
     let mut place: u32 = 0;
-    let mut k: usize = 0;
-    while k < count {
+    // By place, as `records_from` reads the records: `waiting` names one too.
+    for k in 0..script.len() / Record::SIZE {
         // The targets depend only on the kinds of the records.
-        let kind = record::kind_at(script, Record::SIZE * k);
-        let next_place = place + 1;
-        let next = k + 1;
-        if kind <= script::DELAY {
-            place = next_place;
-        } else if kind <= script::IF {
-            // A repeat or an if.
-            waiting[depth] = k;
-            starts[depth] = start_of(kind, next_place);
-            depth = depth + 1;
-            place = next_place;
-        } else if kind == script::ELSE {
-            // The target of the test is known. Now the target of the jump is missing.
-            let test = waiting[depth - 1];
-            targets[test] = next_place;
-            waiting[depth - 1] = k;
-            place = next_place;
-        } else {
-            // An end.
-            depth = depth - 1;
-            let start = starts[depth];
-            let opened = waiting[depth];
-            let after_block = place_after_end(start, place);
-            targets[k] = start;
-            targets[opened] = after_block;
-            place = after_block;
+        match kind_of(record::kind_at(script, Record::SIZE * k)) {
+            RecordKind::Write | RecordKind::Read | RecordKind::Delay => place += 1,
+            RecordKind::Repeat => {
+                place += 1;
+                open.push(OpenBlock {
+                    waiting: k,
+                    body: Some(place),
+                });
+            }
+            RecordKind::If => {
+                place += 1;
+                open.push(OpenBlock {
+                    waiting: k,
+                    body: None,
+                });
+            }
+            RecordKind::Else => {
+                // The target of the test is known. Now the target of the jump is missing.
+                place += 1;
+                let test = open.pop().unwrap();
+                targets[test.waiting] = Some(place);
+                open.push(OpenBlock {
+                    waiting: k,
+                    body: None,
+                });
+            }
+            RecordKind::End => {
+                let opened = open.pop().unwrap();
+                targets[k] = opened.body;
+                if opened.body.is_some() {
+                    place += 1;
+                }
+                targets[opened.waiting] = Some(place);
+            }
         }
-        k = next;
     }
 }
 
 // ---- words
 
-fn word(kind: u32, width: u32, port: u32, target: u32, value: u32) -> Record
-    ensures { result ≡ word kind width port target value }
+fn word(kind: WordKind, width: u32, port: u32, target: u32, value: u32) -> Record
+    ensures { result ≡ word (word_kind_number kind) width port target value }
 {
     Record {
         mark: Record::WORD_MARK,
-        kind,
+        kind: kind.number(),
         width,
         port,
         target,
         value,
     }
-}
-
-// The word kind of a record kind. A write, a read, a delay and a repeat keep their number.
-fn word_kind_for(kind: u32) -> u32
-    ensures { result ≡ word_kind_for kind }
-{
-    if kind == script::IF {
-        return word_kind::TEST;
-    }
-    if kind == script::ELSE {
-        return word_kind::JUMP;
-    }
-    if kind == script::END {
-        return word_kind::LOOP_END;
-    }
-    kind
-}
-
-// Every record becomes a word, except the end of an if. The target of a loop end is never 0, so 0 marks the end of an if.
-fn emits_word(target: u32, kind: u32) -> bool
-    ensures { result ≡ emits_word target kind }
-{
-    if kind == script::END {
-        return target != 0;
-    }
-    true
 }
 
 // ---- image
@@ -147,38 +113,30 @@ fn put(image: &mut [u8], place: u32, w: Record)
 fn offset(place: u32) -> usize
     ensures { result ≡ record_size * place }
 {
-    Record::SIZE * index(place)
-}
-
-fn index(place: u32) -> usize
-    ensures { result ≡ place }
-{
-    place as usize
+    Record::SIZE * place as usize
 }
 
 // Writes the words of an accepted script to an image buffer that is long enough for them.
-fn emit(script: &[u8], count: usize, image: &mut [u8])
-    requires count_value { (count ≡ length script.now / record_size) × ((script_refusal script.now).number ≡ 0) }
-    requires script_in_bounds { record_size * length (words_of script.now) ≤ length image.old }
+fn emit(script: &[u8], image: &mut [u8])
+    requires accepted { (script_refusal script.now).number ≡ 0 }
+    requires room { record_size * length (words_of script.now) ≤ length image.old }
     ensures { image.new ≡ image_bytes (words_of script.now) ++ drop (record_size * length (words_of script.now)) image.old }
 {
-    let mut targets: [u32; Record::MOST] = [0; Record::MOST];
-    fill_targets(script, count, &mut targets);
+    // A word that uses no target has 0 there, so 0 is a target here. Only a record without a word has none.
+    let mut targets = [Some(0); Record::MOST];
+    fill_targets(script, &mut targets);
     let mut place: u32 = 0;
-    let mut k: usize = 0;
-    while k < count {
+    // By place, as `records_from` reads the records.
+    for k in 0..script.len() / Record::SIZE {
         let r = record::read(script, Record::SIZE * k);
-        let target = targets[k];
-        let next = k + 1;
-        if emits_word(target, r.kind) {
-            let kind = word_kind_for(r.kind);
+        if let Some(target) = targets[k] {
             // Fields that the record does not use are 0, so the word can copy them.
+            let kind = kind_of(r.kind).word_kind();
             put(image, place, word(kind, r.width, r.port, target, r.value));
-            place = place + 1;
+            place += 1;
         }
-        k = next;
     }
-    put(image, place, word(word_kind::HALT, 0, 0, 0, 0));
+    put(image, place, word(WordKind::Halt, 0, 0, 0, 0));
 }
 
 // Refusal 9: a buffer of `length` bytes is too short for this many words.
@@ -188,30 +146,17 @@ fn too_short(length: usize, words: u32) -> bool
     length < offset(words)
 }
 
-// Compiles a script. Writes nothing to the image unless the script is accepted and its words fit.
-pub fn compile(script: &[u8], image: &mut [u8]) -> CompileResult
-    ensures { (result ≡ compile_result script.now image.old) × (image.new ≡ image_after script.now image.old) }
+// Compiles a script and returns the number of words. Writes nothing to the image unless the script is accepted and its words fit.
+pub fn compile(script: &[u8], image: &mut [u8]) -> Result<u32, Refused>
+    ensures { (compiled result ≡ compile_result script.now image.old) × (image.new ≡ image_after script.now image.old) }
 {
-    let found = script::scan(script);
-    let count = script.len() / Record::SIZE;
-    if found.number != 0 {
-        return CompileResult {
-            refusal: found.number,
-            place: found.place,
-            words: 0,
-        };
+    let words = script::scan(script)?;
+    if too_short(image.len(), words) {
+        return Err(Refused {
+            kind: RefusalKind::BufferTooShort,
+            place: (script.len() / Record::SIZE) as u32,
+        });
     }
-    if too_short(image.len(), found.words) {
-        return CompileResult {
-            refusal: outcome::BUFFER_TOO_SHORT,
-            place: (count % 4096) as u32, // At most 1,024. The remainder only bounds it for the cast.
-            words: 0,
-        };
-    }
-    emit(script, count, image);
-    CompileResult {
-        refusal: 0,
-        place: 0,
-        words: found.words,
-    }
+    emit(script, image);
+    Ok(words)
 }

@@ -2,9 +2,8 @@
 use Rattle.std.specs.Prelude.{ℕ, ◌%◌, Bool, true, false, cond, ◌&&◌, eqb}
 use Rattle.std.specs.Int.Bits.{bit_and}
 use Rattle.access.specs.Block.{Result, with_block, status, takes_byte}
-use Rattle.access.specs.Status.{done, status_only}
+use Rattle.access.specs.Status.{Answer, done, status_only}
 use Rattle.access.specs.declared.Access.{Access}
-use Rattle.access.specs.declared.Answer.{Answer}
 use Rattle.mask.specs.Mask.{has_bit, within}
 use Rattle.config.specs.Base.{high, low, with_high, with_low}
 use Rattle.config.specs.Fields.{

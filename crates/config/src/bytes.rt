@@ -3,7 +3,6 @@ ghost use Rattle.std.specs.Prelude.{◌≡◌, length};
 ghost use Rattle.config.specs.Saved.{config_bytes, config_from, config_saved, config_size};
 
 use super::Config;
-use super::ports::{high, low};
 
 impl Config {
     pub const SIZE: usize = 9;
@@ -11,19 +10,23 @@ impl Config {
     pub fn to_bytes(self) -> [u8; Config::SIZE]
         ensures { result ≡ config_bytes self }
     {
+        let [runtime_high, runtime_low] = self.runtime_base.to_be_bytes();
+        let [key_high, key_low] = self.key_base.to_be_bytes();
         [
-            self.unlocked as u8,
+            u8::from(self.unlocked),
             self.index,
             self.number,
             self.activate,
-            high(self.runtime_base),
-            low(self.runtime_base),
-            high(self.key_base),
-            low(self.key_base),
+            runtime_high,
+            runtime_low,
+            key_high,
+            key_low,
             self.control,
         ]
     }
 
+    // A slice, not an array, here and in `is_saved`: `state` cuts it out of a slice, and a cut is a slice.
+    #[tactic(auto, unfolding(crate::specs::Saved::config_from))]
     pub fn from_bytes(bytes: &[u8]) -> Self
         requires { length bytes.now ≡ config_size }
         ensures { result ≡ config_from bytes.now }
@@ -33,8 +36,8 @@ impl Config {
             index: bytes[1],
             number: bytes[2],
             activate: bytes[3],
-            runtime_base: little_endian::two(bytes[5], bytes[4]),
-            key_base: little_endian::two(bytes[7], bytes[6]),
+            runtime_base: u16::from_be_bytes([bytes[4], bytes[5]]),
+            key_base: u16::from_be_bytes([bytes[6], bytes[7]]),
             control: bytes[8],
         }
     }

@@ -7,7 +7,7 @@ mod bytes;
 mod ports;
 
 ghost use Rattle.std.specs.Prelude.{◌≡◌};
-ghost use Rattle.access.specs.Block.{with_block, status};
+ghost use Rattle.access.specs.Block.{reply_of};
 ghost use Rattle.config.specs.Config.{
   fresh_config,
   config_reset,
@@ -17,7 +17,7 @@ ghost use Rattle.config.specs.Config.{
   config_access,
 };
 
-use access::{Access, Answer};
+use access::{Access, Reply, Status};
 
 // The order of the fields was chosen for speed. See bench/README.md.
 #[derive(Clone, Copy)]
@@ -32,12 +32,6 @@ pub struct Config {
     pub number: u8,
     // Key control.
     pub control: u8,
-}
-
-#[derive(Clone, Copy)]
-pub struct AccessResult {
-    pub block: Config,
-    pub answer: Answer,
 }
 
 impl Config {
@@ -93,7 +87,7 @@ impl Config {
         }
     }
 
-    // Every reset resets the whole configuration.
+    // Every reset resets the whole configuration. The level is a number, since `config_reset` says what any number does.
     pub fn reset(self, level: u32) -> Self
         ensures { result ≡ config_reset self level }
     {
@@ -101,66 +95,46 @@ impl Config {
     }
 
     // Only activate and key control have a mask. The other registers take any value.
+    #[tactic(auto, unfolding(crate::specs::Config::config_in_range))]
     pub fn in_range(self) -> bool
         ensures { result ≡ config_in_range self }
     {
-        if mask::within8(Config::ACTIVATE_MASK, self.activate) {
-            return mask::within8(Config::CONTROL_MASK, self.control);
-        }
-        false
+        self.activate & Config::ACTIVATE_MASK == self.activate
+            && self.control & Config::CONTROL_MASK == self.control
     }
 
     // The effective bases: the stored values with the low bits masked off.
     pub fn runtime_base(self) -> u32
         ensures { result ≡ runtime_base self }
     {
-        mask::wide16(self.runtime_base & Config::RUNTIME_BASE_MASK)
+        u32::from(self.runtime_base & Config::RUNTIME_BASE_MASK)
     }
 
     pub fn key_base(self) -> u32
         ensures { result ≡ key_base self }
     {
-        mask::wide16(self.key_base & Config::KEY_BASE_MASK)
+        u32::from(self.key_base & Config::KEY_BASE_MASK)
     }
 
-    pub fn access(self, offset: u32, access: Access) -> AccessResult
-        ensures { with_block result.answer result.block ≡ config_access self offset access }
+    #[tactic(auto, unfolding(crate::specs::Config::config_access))]
+    pub fn access(self, offset: u32, access: Access) -> Reply<Config>
+        ensures { reply_of result ≡ config_access self offset access }
     {
         if !access::takes_byte(access.width) {
-            return self.status(Answer::UNCLAIMED);
+            return Reply::status(Status::Unclaimed, self);
         }
         let value = (access.value % 256) as u8;
-        match offset {
-            Config::INDEX_PORT => {
-                if access.write {
-                    self.index_write(value)
-                } else {
-                    AccessResult {
-                        answer: self.index_read(),
-                        block: self,
-                    }
-                }
-            }
-            _ => {
-                if access.write {
-                    self.data_write(value)
-                } else {
-                    AccessResult {
-                        answer: self.data_read(),
-                        block: self,
-                    }
-                }
-            }
-        }
-    }
-
-    // An answer with a status and no value.
-    fn status(self, code: u32) -> AccessResult
-        ensures { with_block result.answer result.block ≡ status code self }
-    {
-        AccessResult {
-            answer: Answer::status_only(code),
-            block: self,
+        match (offset, access.write) {
+            (Config::INDEX_PORT, true) => self.index_write(value),
+            (Config::INDEX_PORT, false) => Reply {
+                block: self,
+                answer: self.index_read(),
+            },
+            (_, true) => self.data_write(value),
+            (_, false) => Reply {
+                block: self,
+                answer: self.data_read(),
+            },
         }
     }
 }

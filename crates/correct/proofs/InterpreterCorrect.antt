@@ -15,8 +15,7 @@ use Rattle.device.specs.Device.{device_in_range}
 use Rattle.device.specs.declared.Device.{Device}
 use Rattle.interpreter.specs.Interpret.{interpret_log, interpret_refusal, interpret_result, refused_interpret, walk_result}
 use Rattle.interpreter.specs.Walk.{WalkEnd}
-use Rattle.outcome.specs.Refusal.{refusal}
-use Rattle.outcome.specs.declared.Refusal.{Refusal}
+use Rattle.outcome.specs.Refusal.{Refusal, refusal}
 use Rattle.record.specs.Record.{most_records, record_size}
 use Rattle.script.proofs.Flat.{accepts}
 use Rattle.script.specs.Refusals.{script_refusal}

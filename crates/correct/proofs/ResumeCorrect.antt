@@ -15,8 +15,7 @@ use Rattle.device.specs.Device.{device_in_range}
 use Rattle.device.specs.Event.{is_event}
 use Rattle.device.specs.declared.Device.{Device}
 use Rattle.mask.proofs.Branch.{branch}
-use Rattle.outcome.specs.Refusal.{refusal}
-use Rattle.outcome.specs.declared.Refusal.{Refusal}
+use Rattle.outcome.specs.Refusal.{Refusal, refusal}
 use Rattle.script.specs.Refusals.{innermost}
 use Rattle.semantics.proofs.Events.{OneEach, after_delay_one, after_test_one, after_write_one, read_one}
 use Rattle.semantics.specs.World.{World, start_world}

@@ -11,7 +11,8 @@ use lib.Seq.{take_at}
 use Rattle.compiler.proofs.Compiling.{refuses_not}
 use Rattle.compiler.proofs.Image.{image_length}
 use Rattle.compiler.proofs.Places.{count_words, emit_length}
-use Rattle.compiler.specs.Compile.{compile_result, image_after}
+use Rattle.std.specs.Prelude.{Ok}
+use Rattle.compiler.specs.Compile.{CompileResult, compile_result, compiled, image_after}
 use Rattle.compiler.specs.Words.{place_after, emit, halt, image_bytes, words_of}
 use Rattle.device.specs.Device.{device_in_range}
 use Rattle.device.specs.declared.Device.{Device}
@@ -65,6 +66,15 @@ words_fit script buffer accepted =
     let w = words_counted script buffer accepted in
     let f = (accepts script r.0).few_words_lem in
     (omega (arith, w, r.1), omega (arith, w, f))
+
+-- the words that `compile` counts lie within an image buffer that is as long as it was before the call
+pub counted_words_fit :
+    (script buffer image : List ℕ) (words : ℕ) → compiled (Ok words) ≡ compile_result script buffer → length image ≡ length buffer
+    → 12 * words ≤ length image
+counted_words_fit script buffer image words e l =
+    let f = words_fit script buffer (sym (ap (λ (r : CompileResult). r.refusal) e)) in
+    let w = ap (λ (r : CompileResult). r.words) e in
+    omega (arith, f.0, w, l)
 
 -- ---- the run of the words of a body and a halt
 module _ (b : Body) (loops : LoopsWithin 0 b) (fields : FieldsWithin b) (ports : PortsWithin b) (few : place_after 0 b < 1024) where

@@ -24,10 +24,9 @@ use Rattle.monitor.specs.Monitor.{fresh_monitor, lock_set, register, with_regist
 use Rattle.monitor.specs.declared.Monitor.{Monitor}
 use Rattle.device.specs.Device.{fresh_device, with_acpi, with_config, with_monitor}
 use Rattle.device.specs.Event.{apply_event}
-use Rattle.device.specs.Dispatch.{device_access}
+use Rattle.device.specs.Dispatch.{AccessResult, device_access}
 use Rattle.device.specs.Owner.{acpi, configuration, key, monitor, nobody}
 use Rattle.device.specs.declared.Device.{Device}
-use Rattle.device.specs.declared.AccessResult.{AccessResult}
 use Rattle.log_entry.specs.Entry.{log_entry}
 use Rattle.record.specs.Record.{bytes_of}
 use Rattle.record.specs.declared.Record.{Record}

@@ -13,7 +13,7 @@ use Rattle.script.specs.Refusals.{script_refusal}
 use Rattle.semantics.specs.OwnRun.{Run, script_run}
 use Rattle.sequencer.specs.Run.{RunEnd, events_refusal, image_run, log_after, run_answer}
 use Rattle.step.specs.Sequencer.{fresh_sequencer}
-use Rattle.sequencer.specs.declared.RunResult.{RunResult}
+use Rattle.sequencer.specs.Run.{RunResult}
 
 -- every element is a byte; the type `&[u8]` ensures it, so `compile` does not require it
 abbrev pub Bytes : List ℕ → Type 0

@@ -7,13 +7,13 @@ use Rattle.compiler.specs.Compile.{compile_result}
 use Rattle.device.specs.declared.Device.{Device}
 use Rattle.interpreter.specs.Interpret.{interpret_log, interpret_result, refused_interpret}
 use Rattle.interpreter.specs.Walk.{script_walk, walk_end}
-use Rattle.interpreter.specs.declared.InterpretResult.{InterpretResult}
+use Rattle.interpreter.specs.Interpret.{InterpretResult}
 use Rattle.outcome.specs.Ending as ending
 use Rattle.outcome.specs.Refusal.{refusal}
 use Rattle.record.specs.Record.{most_records, record_size}
 use Rattle.semantics.specs.OwnRun.{script_run}
 use Rattle.sequencer.specs.Run.{image_run, log_after, run_answer}
-use Rattle.sequencer.specs.declared.RunResult.{RunResult}
+use Rattle.sequencer.specs.Run.{RunResult}
 use Rattle.step.specs.Sequencer.{fresh_sequencer}
 use Rattle.correct.specs.CompilerCorrect.{Bytes, words_written}
 

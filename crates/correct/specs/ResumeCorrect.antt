@@ -8,7 +8,7 @@ use Rattle.std.specs.Prelude.{ℕ, ◌+◌, ◌≡◌, List, ◌++◌, drop, len
 use Rattle.device.specs.declared.Device.{Device}
 use Rattle.outcome.specs.Ending as ending
 use Rattle.sequencer.specs.Run.{RunEnd, image_run, log_after, run_answer}
-use Rattle.sequencer.specs.declared.RunResult.{RunResult}
+use Rattle.sequencer.specs.Run.{RunResult}
 use Rattle.step.specs.declared.Sequencer.{Sequencer}
 
 -- "the second call gets the events and the log room left": the events that the first run did not take, and the log after the first run from its

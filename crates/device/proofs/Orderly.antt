@@ -5,9 +5,8 @@ use mathlib.Core.Path.{◌≡◌, refl, ap, ◌∙◌}
 use mathlib.Core.Bool.{Bool, true, false, cond}
 use Rattle.access.proofs.Block.{Orderly, StatusInTable}
 use Rattle.access.specs.Block.{Result, with_block}
-use Rattle.access.specs.Status.{is_status, read_value}
+use Rattle.access.specs.Status.{Answer, is_status, read_value}
 use Rattle.access.specs.declared.Access.{Access}
-use Rattle.access.specs.declared.Answer.{Answer}
 use Rattle.acpi.proofs.Orderly.{acpi_orderly}
 use Rattle.config.proofs.Orderly.{config_orderly}
 use Rattle.key.proofs.Orderly.{key_orderly}

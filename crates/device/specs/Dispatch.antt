@@ -2,17 +2,23 @@
 -- See docs/CHIP.md, "Accesses".
 use Rattle.std.specs.Prelude.{ℕ, ◌-◌, cond, List, [], ◌∷◌, get_or}
 use Rattle.access.specs.Block.{Result, with_block, status}
-use Rattle.access.specs.Status.{read_value}
+use Rattle.access.specs.Status.{Answer, answer_of, read_value}
 use Rattle.access.specs.declared.Access.{Access}
-use Rattle.access.specs.declared.Answer.{Answer}
 use Rattle.acpi.specs.Acpi.{acpi_access}
 use Rattle.config.specs.Config.{config_access}
 use Rattle.key.specs.Key.{key_access}
 use Rattle.monitor.specs.Monitor.{monitor_access}
 use Rattle.device.specs.Device.{settle_device, with_acpi, with_config, with_key, with_monitor}
 use Rattle.device.specs.Owner.{acpi_port, config_port, key_port, monitor_port, owner}
-use Rattle.device.specs.declared.AccessResult.{AccessResult}
+use Rattle.device.specs.Owners.{owner_number}
+use Rattle.device.specs.declared.AccessResult as code
 use Rattle.device.specs.declared.Device.{Device}
+
+-- the owner, the answer, and the device after the access
+pub record AccessResult : Type 0 where
+  pub owner : ℕ
+  pub answer : Answer
+  pub device : Device
 
 abbrev pub access_result : ℕ → Answer → Device → AccessResult
 access_result o r d = record { owner = o; answer = r; device = d }
@@ -52,3 +58,7 @@ final_answer x r = cond x.write r (record { status = r.status; value = read_valu
 unfoldable pub device_access : Device → Access → AccessResult
 device_access d x =
     access_result (dispatch d x).owner (final_answer x (dispatch d x).answer) (settle_device (dispatch d x).device)
+
+-- ---- the result of the code, with the owner and the status of its answer as numbers
+abbrev pub result_of : code.AccessResult → AccessResult
+result_of r = access_result (owner_number r.owner) (answer_of r.answer) r.device

@@ -1,22 +1,45 @@
 -- Single calls: one access or one event on any device, with the refusals. See docs/CHIP.md, "Single calls".
 -- "A lone access: 11, then 4 (width, port, or a write value too wide); a lone event: 11, 12; place
 -- 0 in each. A refusal's other numbers are 0"
-use Rattle.std.specs.Prelude.{ℕ, Bool, true, false, cond, ◌&&◌, eqb, leb}
+use Rattle.std.specs.Prelude.{ℕ, Bool, true, false, cond, ◌&&◌, eqb, leb, Result, Ok, Err}
 use Rattle.access.specs.declared.Access.{Access}
-use Rattle.access.specs.declared.Answer.{Answer}
+use Rattle.access.specs.Status.{Answer, answer_of}
 use Rattle.width.specs.Width.{fits_width, is_width}
 use Rattle.device.specs.Device.{device_in_range, outputs_of}
-use Rattle.device.specs.Dispatch.{device_access}
+use Rattle.device.specs.Dispatch.{AccessResult, device_access}
 use Rattle.device.specs.Event.{apply_event, is_event}
 use Rattle.device.specs.Owner.{nobody}
+use Rattle.device.specs.Owners.{owner_number}
 use Rattle.device.specs.declared.Device.{Device}
 use Rattle.outcome.specs.Number as number
 use Rattle.device.specs.declared.Outputs.{Outputs}
-use Rattle.device.specs.declared.AccessResult.{AccessResult}
-use Rattle.device.specs.declared.single.AccessReply.{AccessReply}
-use Rattle.device.specs.declared.single.EventReply.{EventReply}
-use Rattle.device.specs.declared.single.SingleAccess.{SingleAccess}
-use Rattle.device.specs.declared.single.SingleEvent.{SingleEvent}
+use Rattle.device.specs.declared.single.SingleAccess as code_access
+use Rattle.device.specs.declared.single.SingleEvent as code_event
+use Rattle.outcome.specs.Refused.{refusal_number}
+use Rattle.outcome.specs.declared.Refused.{Refused}
+
+-- ---- the replies in numbers. If `refusal` is not 0, it is the number of the refusal, and all other numbers are 0
+pub record AccessReply : Type 0 where
+  pub refusal : ℕ
+  pub place : ℕ
+  pub status : ℕ
+  pub value : ℕ
+  pub outputs : Outputs
+  pub owner : ℕ
+
+pub record EventReply : Type 0 where
+  pub refusal : ℕ
+  pub place : ℕ
+  pub outputs : Outputs
+
+-- the reply, and the device after the call
+pub record SingleAccess : Type 0 where
+  pub device : Device
+  pub reply : AccessReply
+
+pub record SingleEvent : Type 0 where
+  pub device : Device
+  pub reply : EventReply
 
 -- an access that is not refused with 4; the value of a read is not checked
 abbrev pub is_access : Access → Bool
@@ -63,3 +86,20 @@ event_made d = record { device = d; reply = event_done (outputs_of d) }
 unfoldable pub single_event : Device → ℕ → SingleEvent
 single_event d n =
     cond (eqb (event_refusal d n) 0) (event_made (apply_event d n)) (record { device = d; reply = event_refused (event_refusal d n) })
+
+-- ---- the results of the code in numbers. After a refusal the device is the one before the call
+abbrev pub access_reply : Result code_access.SingleAccess Refused → AccessReply
+access_reply (Ok s) = access_done (owner_number s.owner) (answer_of s.answer) s.outputs
+access_reply (Err r) = record { refusal = refusal_number r.kind; place = r.place; status = 0; value = 0; outputs = no_outputs; owner = nobody }
+
+abbrev pub accessed : Device → Result code_access.SingleAccess Refused → SingleAccess
+accessed d (Ok s) = record { device = s.device; reply = access_reply (Ok s) }
+accessed d (Err r) = record { device = d; reply = access_reply (Err r) }
+
+abbrev pub event_reply : Result code_event.SingleEvent Refused → EventReply
+event_reply (Ok s) = event_done s.outputs
+event_reply (Err r) = record { refusal = refusal_number r.kind; place = r.place; outputs = no_outputs }
+
+abbrev pub after_event : Device → Result code_event.SingleEvent Refused → SingleEvent
+after_event d (Ok s) = record { device = s.device; reply = event_reply (Ok s) }
+after_event d (Err r) = record { device = d; reply = event_reply (Err r) }

@@ -1,7 +1,8 @@
 // Events from outside the chip. An event is a 32-bit number: the kind in bits 31 to 24, the operand in bits 23 to 0. The single calls
 // and the sequencer check it with `is_event` and then call `Device::apply_event`. See docs/CHIP.md, "Events".
 ghost use Rattle.std.specs.Prelude.{◌≡◌, ◌≤◌};
-ghost use Rattle.device.specs.Event.{apply_event, event_block, greatest_operand, is_event, most_ticks, tick_event};
+ghost use Rattle.device.specs.Event.{apply_event, greatest_operand, is_event, most_ticks, tick_event};
+ghost use Rattle.device.specs.EventKinds.{NumberedEventKind, event_kind_number};
 
 use crate::Device;
 use acpi::Acpi;
@@ -13,37 +14,57 @@ pub const KIND_UNIT: u32 = 0x0100_0000;
 // The most ticks of one event.
 const MOST_TICKS: u32 = 65535;
 
-// The kind of a reset. The other kinds are constants of the block that takes them.
+// The number of a reset. The other kinds are constants of the block that takes them.
 pub const RESET: u32 = 6;
 
-// A reset goes to every block. This is not the number of a block.
-const EVERY_BLOCK: u32 = 255;
-
-// A row of the table of kinds: the block that takes the event, or `NOBODY` for an unknown kind, and the greatest operand.
-#[derive(Clone, Copy)]
-struct KindRow {
-    block: u32,
-    greatest: u32,
+// The kinds of events.
+#[derive(Clone, Copy, Debug, PartialEq, Eq, Hash)]
+pub enum EventKind {
+    Ticks,
+    Pin,
+    RtcAlarm,
+    BusMaster,
+    Sensor,
+    Reset,
+    Button,
 }
 
-fn row(block: u32, greatest: u32) -> KindRow
-    ensures { (result.block ≡ block) × (result.greatest ≡ greatest) }
-{
-    KindRow { block, greatest }
+// A number that no kind has. `record`, which has such a type too, is not below this crate.
+#[derive(Clone, Copy, Debug, PartialEq, Eq, Hash)]
+pub struct UnknownKind(pub u32);
+
+impl TryFrom<u32> for EventKind {
+    type Error = UnknownKind;
+
+    ghost try_from_gives = { NumberedEventKind };
+
+    #[tactic(auto, unfolding(crate::specs::Event::event_block))]
+    fn try_from(number: u32) -> Result<Self, UnknownKind> {
+        match number {
+            Acpi::TICKS => Ok(EventKind::Ticks),
+            Acpi::PIN => Ok(EventKind::Pin),
+            Acpi::RTC_ALARM => Ok(EventKind::RtcAlarm),
+            Acpi::BUS_MASTER => Ok(EventKind::BusMaster),
+            Monitor::SENSOR => Ok(EventKind::Sensor),
+            RESET => Ok(EventKind::Reset),
+            Acpi::BUTTON => Ok(EventKind::Button),
+            _ => Err(UnknownKind(number)),
+        }
+    }
 }
 
-fn kind_row(kind: u32) -> KindRow
-    ensures { (result.block ≡ event_block kind) × (result.greatest ≡ greatest_operand kind) }
-{
-    match kind {
-        Acpi::TICKS => row(Device::ACPI, MOST_TICKS),
-        Acpi::PIN => row(Device::ACPI, 15),
-        Acpi::RTC_ALARM => row(Device::ACPI, 0),
-        Acpi::BUS_MASTER => row(Device::ACPI, 0),
-        Monitor::SENSOR => row(Device::MONITOR, 3),
-        RESET => row(EVERY_BLOCK, 3),
-        Acpi::BUTTON => row(Device::ACPI, 0),
-        _ => row(Device::NOBODY, 0),
+impl EventKind {
+    #[tactic(auto, unfolding(crate::specs::Event::greatest_operand))]
+    fn greatest_operand(self) -> u32
+        ensures { result ≡ greatest_operand (event_kind_number self) }
+    {
+        match self {
+            EventKind::Ticks => MOST_TICKS,
+            EventKind::Pin => 15,
+            EventKind::Sensor => 3,
+            EventKind::Reset => 3,
+            EventKind::RtcAlarm | EventKind::BusMaster | EventKind::Button => 0,
+        }
     }
 }
 
@@ -56,41 +77,41 @@ pub fn tick_event(ticks: u32) -> u32
 }
 
 // False for the events that are refused with 12: the kind is unknown or the operand is too large.
+#[tactic(auto, unfolding(crate::specs::Event::is_event))]
 pub fn is_event(number: u32) -> bool
     ensures { result ≡ is_event number }
 {
-    let row = kind_row(number / KIND_UNIT);
-    if row.block == Device::NOBODY {
-        return false;
+    match EventKind::try_from(number / KIND_UNIT) {
+        Ok(kind) => number % KIND_UNIT <= kind.greatest_operand(),
+        Err(_) => false,
     }
-    number % KIND_UNIT <= row.greatest
 }
 
 impl Device {
-    // The device after the event and the settling.
+    // The device after the event and the settling. A block takes the number of the kind, since its definition says what any number does.
+    #[tactic(auto, unfolding(crate::specs::Event::apply_event, crate::specs::Event::event_effect, crate::specs::Event::event_block))]
     pub fn apply_event(mut self, number: u32) -> Self
         ensures { result ≡ apply_event self number }
     {
         let kind = number / KIND_UNIT;
         let operand = number % KIND_UNIT;
-        let row = kind_row(kind);
-        let block = row.block;
-        match block {
-            Device::ACPI => {
-                let acpi = self.acpi.event(kind, operand);
-                self.acpi = acpi;
+        match EventKind::try_from(kind) {
+            Ok(
+                EventKind::Ticks
+                | EventKind::Pin
+                | EventKind::RtcAlarm
+                | EventKind::BusMaster
+                | EventKind::Button,
+            ) => {
+                self.acpi = self.acpi.event(kind, operand);
                 self.settle()
             }
-            Device::MONITOR => {
-                let monitor = self.monitor.event(kind, operand);
-                self.monitor = monitor;
+            Ok(EventKind::Sensor) => {
+                self.monitor = self.monitor.event(kind, operand);
                 self.settle()
             }
-            EVERY_BLOCK => {
-                let fresh = self.reset(operand);
-                fresh.settle()
-            }
-            _ => self.settle(),
+            Ok(EventKind::Reset) => self.reset(operand).settle(),
+            Err(_) => self.settle(),
         }
     }
 }

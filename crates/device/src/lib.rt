@@ -15,6 +15,7 @@ use acpi::Acpi;
 use config::Config;
 use key::Key;
 use monitor::Monitor;
+use owner::Owner;
 
 // The largest block comes first. A device is copied 16 bytes at a time, and in this order the
 // two large blocks start at multiples of 16.
@@ -38,7 +39,7 @@ pub struct Outputs {
 #[derive(Clone, Copy)]
 pub struct AccessResult {
     pub device: Device,
-    pub owner: u32,
+    pub owner: Option<Owner>,
     pub answer: Answer,
 }
 
@@ -47,69 +48,54 @@ impl Device {
     pub fn fresh() -> Self
         ensures { result ≡ fresh_device }
     {
-        let config = Config::fresh();
-        let acpi = Acpi::fresh();
-        let monitor = Monitor::fresh();
-        let key = Key::fresh();
         Device {
-            acpi,
-            key,
-            monitor,
-            config,
+            acpi: Acpi::fresh(),
+            key: Key::fresh(),
+            monitor: Monitor::fresh(),
+            config: Config::fresh(),
         }
     }
 
-    // Each block decides what a reset of this level clears. See docs/CHIP.md, "Resets".
+    // Each block decides what a reset of this level clears. See docs/CHIP.md, "Resets". The level is a number, since `reset_device` says what any
+    // number does.
+    #[tactic(auto, unfolding(crate::specs::Device::reset_device))]
     pub fn reset(self, level: u32) -> Self
         ensures { result ≡ reset_device self level }
     {
-        let config = self.config.reset(level);
-        let acpi = self.acpi.reset(level);
-        let monitor = self.monitor.reset(level);
-        let key = self.key.reset(level);
         Device {
-            acpi,
-            key,
-            monitor,
-            config,
+            acpi: self.acpi.reset(level),
+            key: self.key.reset(level),
+            monitor: self.monitor.reset(level),
+            config: self.config.reset(level),
         }
     }
 
     // Is the device valid? The key has no test, because any byte is a key byte. See docs/CHIP.md, "Valid and saved states".
+    #[tactic(auto, unfolding(crate::specs::Device::device_in_range))]
     pub fn in_range(self) -> bool
         ensures { result ≡ device_in_range self }
     {
-        if !self.config.in_range() {
-            return false;
-        }
-        if !self.acpi.in_range() {
-            return false;
-        }
-        self.monitor.in_range()
+        self.config.in_range() && self.acpi.in_range() && self.monitor.in_range()
     }
 
     pub fn outputs(self) -> Outputs
         ensures { result ≡ outputs_of self }
     {
-        let sci = self.acpi.sci();
-        let smi = self.acpi.smi();
-        let interrupt = self.monitor.interrupt();
         Outputs {
-            sci,
-            smi,
-            monitor: interrupt,
+            sci: self.acpi.sci(),
+            smi: self.acpi.smi(),
+            monitor: self.monitor.interrupt(),
         }
     }
 
     // Runs after every access and every event. If no status bit is pending, the device is unchanged.
+    #[tactic(auto, using(acpi::proofs::Settle::settle_idle))]
     pub fn settle(mut self) -> Self
         ensures { result ≡ settle_device self }
     {
-        if !self.acpi.pending() {
-            return self;
+        if self.acpi.pending() {
+            self.acpi = self.acpi.settle();
         }
-        let acpi = self.acpi.settle();
-        self.acpi = acpi;
         self
     }
 }

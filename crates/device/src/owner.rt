@@ -1,23 +1,23 @@
 // Which block owns a port: the first that claims it. The port and the configuration decide, because the configuration holds the
-// activate bit and the bases. `Device::dispatch` calls `owner`. See docs/CHIP.md, "Port map".
+// activate bit and the bases. `Device::dispatch` calls `Owner::of`. See docs/CHIP.md, "Port map".
 ghost use Rattle.std.specs.Prelude.{◌≡◌};
 ghost use Rattle.device.specs.Owner.{owner, in_ports, is_active, monitor_claims, key_claims, monitor_port};
+ghost use Rattle.device.specs.Owners.{block_number, owner_number};
 
 use crate::Device;
 use config::Config;
 
-// The numbers of the owners, in the order of their claims, and the ports of the blocks.
+// A block that owns ports, in the order of the claims.
+#[derive(Clone, Copy, Debug, PartialEq, Eq, Hash)]
+pub enum Owner {
+    Configuration = 1,
+    Acpi = 2,
+    Monitor = 3,
+    Key = 4,
+}
+
+// The ports of the blocks.
 impl Device {
-    pub const NOBODY: u32 = 0;
-
-    pub const CONFIGURATION: u32 = 1;
-
-    pub const ACPI: u32 = 2;
-
-    pub const MONITOR: u32 = 3;
-
-    pub const KEY: u32 = 4;
-
     pub const INDEX_PORT: u32 = 0x002E;
 
     pub const DATA_PORT: u32 = 0x002F;
@@ -37,33 +37,24 @@ impl Device {
 fn in_ports(first: u32, last: u32, port: u32) -> bool
     ensures { result ≡ in_ports first last port }
 {
-    if first <= port {
-        return port <= last;
-    }
-    false
+    (first..=last).contains(&port)
 }
 
 // Without this bit the monitor and the key have no ports.
 fn is_active(config: Config) -> bool
     ensures { result ≡ is_active config }
 {
-    mask::has8(config.activate, Config::ACTIVATE_MASK)
+    config.activate & Config::ACTIVATE_MASK != 0
 }
 
+#[tactic(auto, unfolding(crate::specs::Owner::monitor_claims))]
 fn monitor_claims(config: Config, port: u32) -> bool
     ensures { result ≡ monitor_claims config port }
 {
-    if !is_active(config) {
-        return false;
-    }
     let base = config.runtime_base();
-    if base == 0 {
-        return false;
-    }
-    if port == base + Device::MONITOR_INDEX {
-        return true;
-    }
-    port == base + Device::MONITOR_DATA
+    is_active(config)
+        && base != 0
+        && (port == base + Device::MONITOR_INDEX || port == base + Device::MONITOR_DATA)
 }
 
 // The first port of the monitor, which is its index port.
@@ -73,37 +64,43 @@ pub fn monitor_port(config: Config) -> u32
     config.runtime_base() + Device::MONITOR_INDEX
 }
 
+#[tactic(auto, unfolding(crate::specs::Owner::key_claims))]
 fn key_claims(config: Config, port: u32) -> bool
     ensures { result ≡ key_claims config port }
 {
-    if !is_active(config) {
-        return false;
-    }
     let base = config.key_base();
-    if base == 0 {
-        return false;
-    }
-    if port < base {
-        return false;
-    }
-    port < base + Device::KEY_BYTES
+    is_active(config) && base != 0 && base <= port && port < base + Device::KEY_BYTES
 }
 
-// The first block that claims the port, or `NOBODY`.
-pub fn owner(config: Config, port: u32) -> u32
-    ensures { result ≡ owner config port }
+// The number of the block that owns a port, as exported answers and log entries name it. 0 is nobody.
+pub fn number(owner: Option<Owner>) -> u32
+    ensures { result ≡ owner_number owner }
 {
-    if in_ports(Device::INDEX_PORT, Device::DATA_PORT, port) {
-        return Device::CONFIGURATION;
+    owner.map_or(0, Owner::number)
+}
+
+impl Owner {
+    pub fn number(self) -> u32
+        ensures { result ≡ block_number self }
+    {
+        self as u32
     }
-    if in_ports(Device::ACPI_FIRST, Device::ACPI_LAST, port) {
-        return Device::ACPI;
+
+    // The first block that claims the port.
+    #[tactic(auto, unfolding(crate::specs::Owner::owner))]
+    pub fn of(config: Config, port: u32) -> Option<Self>
+        ensures { owner_number result ≡ owner config port }
+    {
+        if in_ports(Device::INDEX_PORT, Device::DATA_PORT, port) {
+            Some(Owner::Configuration)
+        } else if in_ports(Device::ACPI_FIRST, Device::ACPI_LAST, port) {
+            Some(Owner::Acpi)
+        } else if monitor_claims(config, port) {
+            Some(Owner::Monitor)
+        } else if key_claims(config, port) {
+            Some(Owner::Key)
+        } else {
+            None
+        }
     }
-    if monitor_claims(config, port) {
-        return Device::MONITOR;
-    }
-    if key_claims(config, port) {
-        return Device::KEY;
-    }
-    Device::NOBODY
 }

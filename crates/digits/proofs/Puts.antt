@@ -1,16 +1,19 @@
 -- Laws of `puts`: two texts written one after the other are one text, the line keeps its length, and a text that fits is
 -- written completely.
-use Rattle.std.proofs.Common.{◌≡◌, ℕ, suc, ◌+◌, ◌/◌, ◌%◌, ◌≤◌, Bool, true, false, cond, ltb, leb, List, [], ◌∷◌, ◌++◌, length, set, refl, ap, ◌∙◌, arith, length-append, length-set, lt-ltb}
+use Rattle.std.proofs.Common.{◌≡◌, ℕ, suc, ◌+◌, ◌/◌, ◌%◌, ◌≤◌, ◌<◌, Bool, true, false, cond, ltb, leb, List, [], ◌∷◌, ◌++◌, length, set, refl, ap, ◌∙◌, arith, length-append, length-set, lt-ltb, le-ltb}
 use Rattle.digits.specs.Text.{Line, decimal_text, digit_text, digits_from, line_at, put, puts}
 
 pub puts_both : (xs ys : List ℕ) (l : Line) → puts (xs ++ ys) l ≡ puts ys (puts xs l)
 puts_both [] ys l = refl
 puts_both (x ∷ xs) ys l = puts_both xs ys (put x l)
 
--- a decimal digit, and then the digits for the smaller powers of ten
-pub digit_then : (scale : ℕ) (scales : List ℕ) (n : ℕ) (l m : Line) {k : Line} → m ≡ puts (digit_text n scale) l
-    → k ≡ puts (digits_from scales n) m → k ≡ puts (digits_from (scale ∷ scales) n) l
-digit_then scale scales n l m p q = rw (puts_both (digit_text n scale) (digits_from scales n) l, q, p)
+pub put_inside : (b : ℕ) (l : Line) → l.at < length l.text → put b l ≡ line_at (set l.text l.at b) (l.at + 1)
+unfolding put
+put_inside b l h = rw (lt-ltb l.at (length l.text) h)
+
+pub put_full : (b : ℕ) (l : Line) → length l.text ≤ l.at → put b l ≡ l
+unfolding put
+put_full b l h = rw (le-ltb l.at (length l.text) h)
 
 put_length : (b : ℕ) (l : Line) → length (put b l).text ≡ length l.text
 unfolding put
@@ -26,11 +29,10 @@ puts_length (x ∷ xs) l = puts_length xs (put x l) ∙ put_length x l
 
 -- ---- a text that fits the line is written completely
 pub puts_whole : (xs : List ℕ) (l : Line) → l.at + length xs ≤ length l.text → (puts xs l).at ≡ l.at + length xs
-unfolding put
 puts_whole [] l h = let e : l.at ≡ l.at + 0 = omega arith in e
 puts_whole (x ∷ xs) l h =
     let next = line_at (set l.text l.at x) (l.at + 1) in
-    let p : put x l ≡ next = rw (lt-ltb l.at (length l.text) (omega (arith, h))) in
+    let p : put x l ≡ next = put_inside x l (omega (arith, h)) in
     let s = length-set l.text l.at x in
     let e : l.at + 1 + length xs ≡ l.at + suc (length xs) = omega arith in
     ap (λ (m : Line). (puts xs m).at) p ∙ puts_whole xs next (rw s (omega (arith, h))) ∙ e

@@ -1,8 +1,9 @@
 -- Laws of reading: which characters are digits, and that digits are read one after the other.
-use Rattle.std.proofs.Common.{◌≡◌, ℕ, zero, suc, ◌+◌, ◌-◌, ◌*◌, ◌%◌, ◌<◌, ◌≤◌, Bool, true, false, cond, ◌&&◌, leb, List, [], ◌∷◌, length, take, drop, refl, ap, ◌∙◌, add-one, arith, eq-eqb, ne_eqb, le-leb, leb-true}
+use Rattle.std.proofs.Common.{◌≡◌, ℕ, zero, suc, ◌+◌, ◌-◌, ◌*◌, ◌%◌, ◌<◌, ◌≤◌, Bool, true, false, cond, ◌&&◌, leb, List, [], ◌∷◌, length, take, drop, ◌==◌, refl, ap, ◌∙◌, add-one, arith, eq-eqb, ne_eqb, le-leb, leb-true, eqb-true, None, Some}
 use mathlib.Core.Bool.{false≢true}
 use borrow.Author.Tests.{lt-leb}
 use lib.Seq.{drop-nil, take-nil}
+use Rattle.digits.specs.Found.{byte_found, digit_found}
 use Rattle.digits.specs.Read.{byte_at, byte_of, char_at, digit_at, digit_of, digits_at, digits_of, is_space, no_digit, within}
 
 -- ---- one character, which lies in one of seven ranges
@@ -67,6 +68,24 @@ module _ (b : ℕ) where
       (either (within 0x41 0x46 b) _ _ (λ e. omega (arith, at_most 0x41 0x46 e))
       (either (within 0x61 0x66 b) _ _ (λ e. omega (arith, at_most 0x61 0x66 e)) (omega arith)))
 
+-- a digit is found
+pub digit_is : (d : ℕ) → d < no_digit → digit_found d ≡ Some d
+digit_is d h = rw (ne_eqb d no_digit (λ e. omega (arith, h, e)))
+
+pub digit_read : (n d : ℕ) → Some d ≡ digit_found n → n ≡ d
+digit_read n d e = pick (n == no_digit) e
+  where
+    pick : (p : Bool) → Some d ≡ cond p None (Some n) → n ≡ d
+    pick true f = cc
+    pick false f = cc
+
+pub no_digit_read : (n : ℕ) → None ≡ digit_found n → n ≡ no_digit
+no_digit_read n e = pick (n == no_digit) refl e
+  where
+    pick : (p : Bool) → (n == no_digit) ≡ p → None ≡ cond p None (Some n) → n ≡ no_digit
+    pick true f g = eqb-true n no_digit f
+    pick false f g = cc
+
 -- ---- the digits at an index
 pub none_of : (line : List ℕ) (at : ℕ) → digit_at line at ≡ no_digit → digits_of (drop at line) ≡ []
 none_of [] at e = rw (drop-nil at)
@@ -101,14 +120,8 @@ space_inside (b ∷ bs) (suc at) e = let i = space_inside bs at e in omega (arit
 
 -- ---- a byte of two digits
 module _ (line : List ℕ) (at : ℕ) where
-  pub no_high : digit_at line at ≡ no_digit → byte_at line at ≡ 256
-  no_high e = ap byte_of (no_digits 2 line at e)
-
   module _ (some : digit_at line at ≡ no_digit → ⊥) where
-    pub no_low : digit_at line (at + 1) ≡ no_digit → byte_at line at ≡ 256
-    no_low e = ap byte_of (one_digit 1 line at some ∙ ap (λ (ds : List ℕ). digit_at line at ∷ ds) (no_digits 1 line (at + 1) e))
-
-    pub two_digits : (digit_at line (at + 1) ≡ no_digit → ⊥)
+    two_digits : (digit_at line (at + 1) ≡ no_digit → ⊥)
         → byte_at line at ≡ digit_at line at % 16 * 16 + digit_at line (at + 1) % 16
     two_digits more =
         let high = digit_at line at in
@@ -118,3 +131,11 @@ module _ (line : List ℕ) (at : ℕ) where
         let both = one_digit 1 line at some ∙ ap (λ (ds : List ℕ). high ∷ ds) (one_digit 0 line (at + 1) more) in
         let sum : (0 * 16 + high) * 16 + low ≡ high % 16 * 16 + low % 16 = omega (arith, some, more, m, n) in
         ap byte_of both ∙ sum
+
+  pub byte_read : (high low : ℕ) → digit_at line at ≡ high → digit_at line (at + 1) ≡ low → high < 16 → low < 16
+      → byte_found (byte_at line at) ≡ Some (high * 16 + low)
+  byte_read high low h l a b =
+      let some : digit_at line at ≡ no_digit → ⊥ = λ e. omega (arith, h, a, e) in
+      let more : digit_at line (at + 1) ≡ no_digit → ⊥ = λ e. omega (arith, l, b, e) in
+      let sum : byte_at line at ≡ high * 16 + low = omega (arith, two_digits some more, h, l, a, b) in
+      rw (sum, ne_eqb (high * 16 + low) 256 (λ e. omega (arith, a, b, e)))

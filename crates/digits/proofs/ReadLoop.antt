@@ -1,5 +1,5 @@
 -- The loop of `number`. After each turn, the digits that were read and those that are left make up the number.
-use Rattle.std.proofs.Common.{◌≡◌, ℕ, suc, ◌+◌, ◌-◌, ◌*◌, ◌%◌, ◌^◌, ◌<◌, ◌≤◌, ◌&&◌, ltb, List, [], ◌∷◌, length, sym, ap, ◌∙◌, arith}
+use Rattle.std.proofs.Common.{◌≡◌, ℕ, suc, ◌+◌, ◌-◌, ◌*◌, ◌%◌, ◌^◌, ◌<◌, ◌&&◌, ltb, List, [], ◌∷◌, length, sym, ap, ◌∙◌, arith}
 use Rattle.digits.specs.Read.{char_at, digit_at, digits_at, no_digit, number_at, value_from}
 use Rattle.digits.proofs.Read.{digit_most, no_digits, one_digit}
 
@@ -23,18 +23,12 @@ module _ (line : List ℕ) (at : ℕ) where
       let e : at + 0 ≡ at = omega arith in
       record { values = rw e; lengths = rw e (omega arith) }
 
-  -- the loop ends after nine digits, or at a character that is not a digit
-  pub after_nine : (count : ℕ) → 9 ≤ count → left count ≡ []
-  after_nine count h =
-      let none : 9 - count ≡ 0 = omega arith in
-      ap (λ (most : ℕ). digits_at most line (at + count)) none
-
   pub after_last_lem : (count : ℕ) → digit_at line (at + count) ≡ no_digit → left count ≡ []
   after_last_lem count e = no_digits (9 - count) line (at + count) e
 
   module _ (value count : ℕ) (reading : Reading value count) where
     pub one_more : count < 9 → (digit_at line (at + count) ≡ no_digit → ⊥)
-        → Reading (value % 2 ^ 28 * 16 + digit_at line (at + count) % 16) (count + 1)
+        → Reading (value % 2 ^ 28 * 16 + digit_at line (at + count)) (count + 1)
     one_more few some =
         let d = digit_at line (at + count) in
         let m = digit_most (char_at line (at + count)) in
@@ -44,11 +38,11 @@ module _ (line : List ℕ) (at : ℕ) where
         ap (λ (most : ℕ). digits_at most line (at + count)) turns
         ∙ one_digit (9 - (count + 1)) line (at + count) some
         ∙ ap (λ (k : ℕ). d ∷ digits_at (9 - (count + 1)) line k) index in
-        let low : (value % 2 ^ 28 * 16 + d % 16) % 2 ^ 32 ≡ (value * 16 + d) % 2 ^ 32 = omega (arith, some, m) in
+        let low : (value % 2 ^ 28 * 16 + d) % 2 ^ 32 ≡ (value * 16 + d) % 2 ^ 32 = omega (arith, some, m) in
         let n = ap length first in
         record {
           values =
-              same_value (left (count + 1)) (value % 2 ^ 28 * 16 + d % 16) (value * 16 + d) low
+              same_value (left (count + 1)) (value % 2 ^ 28 * 16 + d) (value * 16 + d) low
               ∙ sym (ap (λ (ds : List ℕ). value_from value ds % 2 ^ 32) first)
               ∙ reading.values;
           lengths = omega (arith, n, reading.lengths);

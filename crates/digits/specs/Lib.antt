@@ -1,2 +1,4 @@
+pub mod Found
 pub mod Read
 pub mod Text
+pub mod Written

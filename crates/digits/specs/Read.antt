@@ -1,6 +1,5 @@
 -- Hex numbers in a line of text. The program `replay` reads its commands with them. See docs/CASES.md, "Lines".
 use Rattle.std.specs.Prelude.{ℕ, ◌+◌, ◌-◌, ◌*◌, ◌%◌, ◌^◌, Bool, false, cond, ◌&&◌, List, [], ◌∷◌, length, take, drop, ◌==◌, nat_le, nat_lt, slice_index}
-use Rattle.digits.specs.declared.Hex.{Hex}
 
 -- ---- one character of a line
 
@@ -46,6 +45,12 @@ value_from high [] = high
 value_from high (digit ∷ digits) = value_from (high * 16 + digit) digits
 
 -- ---- numbers
+
+-- a number that was read, and the index after its last digit
+pub record Hex : Type 0 where
+  pub ok : Bool
+  pub value : ℕ
+  pub next : ℕ
 
 -- A number has one to eight digits. If there is one at an index, `ok` is true, and `next` is the index after its digits. No more
 -- than nine digits are read, because nine are already too many. The value of nine digits is that of the last eight.

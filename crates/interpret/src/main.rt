@@ -4,45 +4,25 @@
 #![tactic(auto)]
 
 use device::Device;
+use outcome::Refused;
 use std::io;
-use trace_text::Summary;
-
-fn write(output: &impl Print, text: &[u8], end: usize) -> io::Result<()> {
-    if end <= text.len() {
-        output.write_all(&text[..end])?;
-    }
-    Ok(())
-}
-
-// The whole text is put into a buffer and written at once.
-fn print(
-    output: &impl Print,
-    summary: Summary,
-    log: &[u64; trace_text::LOG_SIZE],
-) -> io::Result<()> {
-    let mut text = [0u8; trace_text::TEXT_SIZE];
-    let end = trace_text::put_whole(&mut text, summary, log);
-    write(output, &text, end)
-}
+use trace_text::RunSummary;
 
 // There are no events.
-fn interpret(output: &impl Print, script: &[u8]) -> io::Result<()> {
-    let mut log = [0u64; trace_text::LOG_SIZE];
-    let events = [0u32; 0];
-    let device = Device::fresh();
-    let result = interpreter::interpret(script, device, &events, trace_text::BUDGET, &mut log);
-    let summary = Summary {
-        outcome: result.outcome,
-        place: result.place,
-        steps: result.steps,
-        logged: result.logged,
-    };
-    print(output, summary, &log)
+fn run_script(script: &[u8], log: &mut [u64]) -> Result<RunSummary, Refused> {
+    let run = interpreter::interpret(script, Device::fresh(), &[], trace_text::BUDGET, log)?;
+    Ok(RunSummary {
+        ending: run.ending,
+        steps: run.steps,
+        logged: run.logged,
+    })
 }
 
 // Longer input than the buffer is cut off there, and is still refused with 1.
 fn main(rt: HostRuntime) -> io::Result<()> {
-    let mut script = [0u8; trace_text::SCRIPT_SIZE];
+    let mut script = [0; trace_text::SCRIPT_SIZE];
+    let mut log = [0; trace_text::LOG_SIZE];
     let count = input::read_full(&mut rt.stdin(), &mut script)?;
-    interpret(&rt, &script[..count])
+    let summary = run_script(&script[..count], &mut log);
+    trace_text::print(&rt, summary, &log)
 }

@@ -1,10 +1,9 @@
 pub mod Waiting
-pub mod Adding
 pub mod Filling
 pub mod Refusing
 pub mod Tabled
 pub mod Ready
 pub mod Worlds
 pub mod Frames
+pub mod Answers
 pub mod Walking
-pub mod Passing

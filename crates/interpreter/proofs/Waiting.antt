@@ -46,6 +46,21 @@ opens (tests w f b a) at = λ l n. omega (arith, as_many a (suc at))
 opens (elses a) at = λ l n. omega (arith, as_many a (suc at))
 opens (ends a) at = λ l n. absurd (n refl)
 
+-- and it has one of the seven kinds
+abbrev Known : List Record → Type 0
+Known [] = Unit {0}
+Known (r ∷ rs) = (1 ≤ r.kind) × (r.kind ≤ 7)
+
+known : {bs : List Block} {rs : List Record} → Accepted bs rs → Known rs
+known over = tt
+known (writes w f a) = (omega arith, omega arith)
+known (reads w a) = (omega arith, omega arith)
+known (delays m a) = (omega arith, omega arith)
+known (repeats m b r a) = (omega arith, omega arith)
+known (tests w f b a) = (omega arith, omega arith)
+known (elses a) = (omega arith, omega arith)
+known (ends a) = (omega arith, omega arith)
+
 -- a list of records that is accepted inside at most 16 open blocks
 record Within (rs : List Record) : Type 0 where
   blocks : List Block
@@ -90,3 +105,10 @@ module _ (script : List ℕ) (h : (script_refusal script).number ≡ 0) where
   some_waiting k l =
       let i = opens (within k (omega arith)).accepted k in
       rw (from_here script (record_count script) k l, add-one k) at i
+
+  -- and each record has one of the seven kinds
+  pub kind_known : (k : ℕ) → k < record_count script
+      → (1 ≤ (record_at script (12 * k)).kind) × ((record_at script (12 * k)).kind ≤ 7)
+  kind_known k l =
+      let i = known (within k (omega arith)).accepted in
+      rw (from_here script (record_count script) k l) at i

@@ -4,19 +4,19 @@ use Prim.Native.Nat.{ℕ, zero, suc, ◌+◌, ◌-◌, ◌*◌, ◌≤◌, ◌<�
 use mathlib.Core.Path.{◌≡◌, refl, ap, sym, subst, ◌∙◌}
 use mathlib.Core.Bool.{Bool, true, false, cond, false≢true}
 use mathlib.Core.List.{List, [], ◌∷◌}
-use mathlib.Core.Logic.{◌⊎◌, inl, inr}
 use native.Mathlib.Numerals.{add-one}
 use native.Mathlib.Omega.{arith}
-use borrow.Author.Tests.{eq-eqb, le-ltb, leb-false, leb-true, lt-leb, lt-ltb, ne_eqb}
+use borrow.Author.Tests.{eq-eqb, le-ltb, leb-false, leb-true, lt-ltb, ne_eqb}
 use lib.Dec.{eqb, leb, ltb}
 use lib.ListN.{drop, get_or, length, length-drop, length-replicate, length-set, replicate, set}
-use Rattle.device.specs.Dispatch.{device_access}
+use Rattle.device.specs.Dispatch.{AccessResult, device_access}
 use Rattle.device.specs.Event.{apply_event, tick_event}
-use Rattle.device.specs.declared.AccessResult.{AccessResult}
 use Rattle.device.specs.declared.Device.{Device}
-use Rattle.lists.proofs.Stack.{stack_length, stack_push, stack_set_top, stack_top}
+use Rattle.lists.proofs.Stack.{stack_length, stack_push, stack_set_top, stack_store, stack_top}
 use Rattle.lists.specs.Stack.{stack_of}
-use Rattle.mask.proofs.Branch.{branch}
+use Rattle.outcome.specs.Refused.{ending_number}
+use Rattle.outcome.specs.declared.Ending.{Ending}
+use Rattle.outcome.specs.declared.Ending.TheVariants.{BudgetSpent, Halted, LogFull}
 use Rattle.record.specs.Record.{record_at}
 use Rattle.record.specs.declared.Record.{Record}
 use Rattle.script.specs.Nested.{Body, done, write, read, delay, repeat, if, if_else, else_record, end_record, script_body, script_record}
@@ -24,28 +24,28 @@ use Rattle.script.specs.Records.{record_count}
 use Rattle.script.specs.Refusals.{innermost, outer, script_refusal}
 use Rattle.semantics.specs.OwnRun.{Run, count_step, one_step, run}
 use Rattle.semantics.specs.World.{after_delay, after_next_event, after_read, after_test, after_write, shares_one, start_world}
+use Rattle.step.specs.Effects.{enter_counters, enter_result, loop_end_counters, loop_end_result}
 use Rattle.step.specs.Represents.{access_of}
+use Rattle.step.specs.declared.execute.Position.{Position}
 use Rattle.interpreter.specs.Partners.{script_partners}
 use Rattle.interpreter.specs.State.{
-  AnswerEffect,
-  ControlReady,
   EndsAs,
   Holds,
-  answer_place,
+  Passed,
+  counted,
   is_access,
   log_full,
   pass_counters,
   pass_result,
-  control_result,
+  passed,
   walk_answer,
 }
 use Rattle.interpreter.specs.Walk.{WalkEnd, in_budget, script_walk, walk, walk_end}
-use Rattle.interpreter.specs.declared.InterpretResult.{InterpretResult}
-use Rattle.interpreter.specs.declared.walk.ControlResult.{ControlResult}
-use Rattle.interpreter.specs.declared.walk.Position.{Position}
+use Rattle.interpreter.specs.declared.InterpretResult as code
 use Rattle.interpreter.proofs.Frames.{Around, Frame, all_spent, counts, depth, in_last, in_repeat, in_then, resume}
 use Rattle.interpreter.proofs.Ready.{Ready, script_ready}
 use Rattle.interpreter.proofs.Tabled.{records_end}
+use Rattle.interpreter.proofs.Answers.{AnswerEffect}
 use Rattle.interpreter.proofs.Worlds.{Accessing, after_delay_lem, after_read_lem, after_test_lem, after_write_lem, test_is}
 
 pub record Walking (script table : List ℕ) (whole : WalkEnd) (events lent : List ℕ) (budget : ℕ) (log : List ℕ) (d : Device) (x : Position)
@@ -93,50 +93,38 @@ starts script d events lent budget table counters h t c =
 not_zero : (n : ℕ) → eqb (suc n) 0 ≡ false
 not_zero n = ne_eqb (suc n) 0 (λ e. omega arith)
 
-record Passes (x : Position) (k v t : ℕ) (counters : List ℕ) (r : ControlResult) (cs : List ℕ) : Type 0 where
+record Passes (x : Position) (k v t : ℕ) (counters : List ℕ) (r : Passed) (cs : List ℕ) : Type 0 where
   result : pass_result x k v t counters ≡ r
   after : pass_counters x k v t counters ≡ cs
 
 module _ (x : Position) (counters : List ℕ) where
-  pass_none : (t : ℕ) → Passes x 4 0 t counters (control_result x.used t 1) counters
+  pass_none : (t : ℕ) → Passes x 4 0 t counters (passed x.used t 1) counters
   unfolding pass_result pass_counters
   pass_none t = record { result = refl; after = refl }
 
-  pass_enter : (n t : ℕ) → Passes x 4 (suc n) t counters (control_result (x.used + 1) (suc x.place) 1) (set counters x.used (suc n))
+  pass_enter : (n t : ℕ) → Passes x 4 (suc n) t counters (passed (x.used + 1) (suc x.place) 1) (set counters x.used (suc n))
   unfolding pass_result pass_counters
   pass_enter n t = record { result = rw (not_zero n, add-one x.place); after = rw (not_zero n) }
 
-  pass_else : (t : ℕ) → Passes x 6 0 t counters (control_result x.used t 1) counters
+  pass_else : (t : ℕ) → Passes x 6 0 t counters (passed x.used t 1) counters
   unfolding pass_result pass_counters
   pass_else t = record { result = refl; after = refl }
 
-  pass_if : Passes x 7 0 0 counters (control_result x.used (suc x.place) 0) counters
+  pass_if : Passes x 7 0 0 counters (passed x.used (suc x.place) 0) counters
   unfolding pass_result pass_counters
   pass_if = record { result = rw (add-one x.place); after = refl }
 
   pass_last : (t : ℕ) → get_or counters (x.used - 1) 0 ≡ 1
-      → Passes x 7 0 (suc t) counters (control_result (x.used - 1) (suc x.place) 1) counters
+      → Passes x 7 0 (suc t) counters (passed (x.used - 1) (suc x.place) 1) (set counters (x.used - 1) 0)
   unfolding pass_result pass_counters
   pass_last t c = record { result = rw (not_zero t, c, add-one x.place); after = rw (not_zero t, c) }
 
   pass_again : (t n : ℕ) → get_or counters (x.used - 1) 0 ≡ suc (suc n)
-      → Passes x 7 0 (suc t) counters (control_result x.used (suc t) 1) (set counters (x.used - 1) (suc n))
+      → Passes x 7 0 (suc t) counters (passed x.used (suc t) 1) (set counters (x.used - 1) (suc n))
   unfolding pass_result pass_counters
   pass_again t n c =
-      let l = lt-leb (suc (suc n)) 1 (omega arith) in
       let o : suc (suc n) - 1 ≡ suc n = omega arith in
-      record { result = rw (not_zero t, c, l); after = rw (not_zero t, c, l, o) }
-
--- it counts a step or moves on to the next place
-pub pass_moves : (x : Position) (k v t : ℕ) (counters : List ℕ)
-    → ((pass_result x k v t counters).steps ≡ 1)
-    ⊎ (((pass_result x k v t counters).steps ≡ 0) × ((pass_result x k v t counters).place ≡ x.place + 1))
-unfolding pass_result
-pass_moves x k v t counters =
-    let Moves : ControlResult → Type 0 = λ r. (r.steps ≡ 1) ⊎ ((r.steps ≡ 0) × (r.place ≡ x.place + 1)) in
-    branch Moves (eqb k 4) (branch Moves (eqb v 0) (inl refl) (inl refl))
-    (branch Moves (eqb k 6) (inl refl)
-    (branch Moves (eqb t 0) (inr (refl, refl)) (branch Moves (leb (get_or counters (x.used - 1) 0) 1) (inl refl) (inl refl))))
+      record { result = rw (not_zero t, c, o, not_zero n); after = rw (not_zero t, c, o) }
 
 -- a read that does not find the log full has room
 pub read_room : (room logged kind : ℕ) → kind ≡ 2 → log_full room logged kind ≡ false → logged < room
@@ -144,24 +132,24 @@ read_room room logged kind k f = leb-false room logged (rw k at f)
 
 -- ---- the endings
 -- the answer of the code is that of the run that its state represents
-ends : {events lent log : List ℕ} {d : Device} {n k : ℕ} (outcome : ℕ) (r : Run) (whole : WalkEnd) (answer : InterpretResult)
-    → Holds events lent d n k log r.world → whole ≡ walk_end outcome r → answer ≡ walk_answer outcome r.steps d n k
+ends : {events lent log : List ℕ} {d : Device} {n k : ℕ} (ending : Ending) (r : Run) (whole : WalkEnd) (answer : code.InterpretResult)
+    → Holds events lent d n k log r.world → whole ≡ walk_end (ending_number ending) r → answer ≡ walk_answer ending r.steps d n k
     → EndsAs events lent log answer whole
-ends {events} {lent} {log} {d} {n} {k} outcome r whole answer h w e =
+ends {events} {lent} {log} {d} {n} {k} ending r whole answer h w e =
     let t : length events - length r.world.events ≡ n =
     rw (sym h.left) (let l = length-drop n events in omega (arith, l, h.inside)) in
-    rw w (record { answered = e ∙ rw (t, sym h.device, sym h.logged); lines = h.lines })
+    rw w (record { answered = rw e (rw (t, sym h.device, sym h.logged)); lines = h.lines })
 
 module _ {script table : List ℕ} {whole : WalkEnd} {events lent : List ℕ} {budget : ℕ} {log : List ℕ} {d : Device} {x : Position}
     {counters : List ℕ} {steps : ℕ} (g : Walking script table whole events lent budget log d x counters steps) where
   -- "Budget is looked at first"
-  pub spent : (answer : InterpretResult) → budget ≤ steps → answer ≡ walk_answer 19 steps d x.taken x.logged
+  pub spent : (answer : code.InterpretResult) → budget ≤ steps → answer ≡ walk_answer BudgetSpent steps d x.taken x.logged
       → EndsAs events lent log answer whole
   spent answer l e =
       let r = g.present in
-      ends 19 r whole answer g.holds
+      ends BudgetSpent r whole answer g.holds
       (g.rest ∙ all_spent budget (length lent) g.body g.frames r (omega (arith, l, g.counted)))
-      (e ∙ ap (λ (n : ℕ). walk_answer 19 n d x.taken x.logged) g.counted)
+      (e ∙ ap (λ (n : ℕ). walk_answer BudgetSpent n d x.taken x.logged) g.counted)
 
   used_is : x.used ≡ depth g.frames
   used_is = sym (stack_length x.used counters) ∙ ap length g.stack
@@ -171,12 +159,12 @@ module _ {script table : List ℕ} {whole : WalkEnd} {events lent : List ℕ} {b
   in_budget_lem l = lt-ltb g.present.steps budget (omega (arith, l, g.counted))
 
   -- after the last record the walk halts and counts a step
-  pub halted : (answer : InterpretResult) → steps < budget → record_count script ≤ x.place
-      → answer ≡ walk_answer 0 (steps + 1) d x.taken x.logged → EndsAs events lent log answer whole
+  pub halted : (answer : code.InterpretResult) → steps < budget → record_count script ≤ x.place
+      → answer ≡ walk_answer Halted (steps + 1) d x.taken x.logged → EndsAs events lent log answer whole
   halted answer l m e =
-      ends 0 (count_step g.present) whole answer g.holds
+      ends Halted (count_step g.present) whole answer g.holds
       (g.rest ∙ pick g.body g.frames g.here g.around)
-      (e ∙ ap (λ (n : ℕ). walk_answer 0 n d x.taken x.logged) (add-one steps ∙ ap suc g.counted))
+      (e ∙ ap (λ (n : ℕ). walk_answer Halted n d x.taken x.logged) (add-one steps ∙ ap suc g.counted))
     where
       pick : (b : Body) (fs : List Frame) → Ready script table x.place (depth fs) b → Around script table (records_end x.place b) fs
           → walk budget (length lent) b (resume budget (length lent) fs) g.present ≡ walk_end 0 (count_step g.present)
@@ -206,11 +194,11 @@ module _ {script table : List ℕ} {whole : WalkEnd} {events lent : List ℕ} {b
     other n r e t = false≢true (sym n ∙ ap (λ (y : Record). is_access y.kind) (fq ∙ e) ∙ t)
 
     -- a read finds the log full
-    pub full : (answer : InterpretResult) → steps < budget → log_full (length log) x.logged q.kind ≡ true
-        → answer ≡ walk_answer 24 steps d x.taken x.logged → EndsAs events lent log answer whole
+    pub full : (answer : code.InterpretResult) → steps < budget → log_full (length log) x.logged q.kind ≡ true
+        → answer ≡ walk_answer LogFull steps d x.taken x.logged → EndsAs events lent log answer whole
     full answer l t e =
-        ends 24 g.present whole answer g.holds (g.rest ∙ pick g.body g.frames g.here g.around)
-        (e ∙ ap (λ (n : ℕ). walk_answer 24 n d x.taken x.logged) g.counted)
+        ends LogFull g.present whole answer g.holds (g.rest ∙ pick g.body g.frames g.here g.around)
+        (e ∙ ap (λ (n : ℕ). walk_answer LogFull n d x.taken x.logged) g.counted)
       where
         is : ℕ → Bool
         is k = log_full (length log) x.logged k
@@ -255,20 +243,20 @@ module _ {script table : List ℕ} {whole : WalkEnd} {events lent : List ℕ} {b
     }
 
     -- the invariant after such a record of this kind and value, with this entry
-    abbrev After : ControlResult → List ℕ → Type 0
+    abbrev After : Passed → List ℕ → Type 0
     After r cs =
         Walking script table whole events lent budget log d (position r.used x.taken x.logged r.place) cs (steps + r.steps)
 
     abbrev Next : (k v t : ℕ) → Type 0
     Next k v t = After (pass_result x k v t counters) (pass_counters x k v t counters)
 
-    found : (s : Record) (t : ℕ) {r : ControlResult} {cs : List ℕ} → record_at script (12 * x.place) ≡ s → get_or table x.place 0 ≡ t
+    found : (s : Record) (t : ℕ) {r : Passed} {cs : List ℕ} → record_at script (12 * x.place) ≡ s → get_or table x.place 0 ≡ t
         → Passes x s.kind s.value t counters r cs → After r cs → Next q.kind q.value p
     found s t {r} {cs} a b e h =
         subst (λ (y : Record). Next y.kind y.value p) (sym (fq ∙ a))
         (subst (Next s.kind s.value) (sym (fp ∙ b))
         (subst (λ (ds : List ℕ). After (pass_result x s.kind s.value t counters) ds) (sym e.after)
-        (subst (λ (o : ControlResult). After o cs) (sym e.result) h)))
+        (subst (λ (o : Passed). After o cs) (sym e.result) h)))
 
     one_more_step : steps + 1 ≡ suc g.present.steps
     one_more_step = add-one steps ∙ ap suc g.counted
@@ -285,8 +273,9 @@ module _ {script table : List ℕ} {whole : WalkEnd} {events lent : List ℕ} {b
         let used : x.used ≡ suc (depth fs) = sym (stack_length x.used counters) ∙ ap length k in
         let top = sym (stack_top x.used counters (omega (arith, used))) ∙ k in
         found end_record (suc at) a.0.1 a.1 (pass_last x counters at (ap innermost top))
-        (moved rest fs (count_step g.present) (x.used - 1) (suc x.place) counters (steps + 1) g.holds one_more_step w a.4 a.5
-        (ap outer top) (omega (arith, f)) g.sized)
+        (moved rest fs (count_step g.present) (x.used - 1) (suc x.place) (set counters (x.used - 1) 0) (steps + 1) g.holds one_more_step
+        w a.4 a.5 (stack_store (x.used - 1) counters (x.used - 1) 0 (omega arith) ∙ ap outer top) (omega (arith, f))
+        (length-set counters (x.used - 1) 0 ∙ g.sized))
 
     turn_again : (more at : ℕ) (b rest : Body) (fs : List Frame) → Remains b (in_repeat more at b rest ∷ fs) (count_step g.present)
         → Around script table x.place (in_repeat (suc more) at b rest ∷ fs) → stack_of x.used counters ≡ suc (suc more) ∷ counts fs
@@ -341,14 +330,30 @@ module _ {script table : List ℕ} {whole : WalkEnd} {events lent : List ℕ} {b
         pick (if port width v b rest) fs w h a k f = absurd (other na _ h.0.1 refl)
         pick (if_else port width v b c rest) fs w h a k f = absurd (other na _ h.0.1 refl)
 
-    -- what `pass_control` requires
-    pub control_ready : is_access q.kind ≡ false → (q.kind ≡ 3 → ⊥) → ControlReady x q.kind p
-    control_ready na nd = record {
-      near = omega (arith, m, few_records_lem);
-      few = omega (arith, used_is, g.few);
-      enters = λ k. enters k g.body g.frames used_is g.here g.around;
-      turns = λ a b c. turning a b c g.body g.frames used_is g.here g.around;
-    }
+    -- the same for each of them
+    pub repeated : steps < budget → q.kind ≡ 4 → After (counted (enter_result x q.value p)) (enter_counters x q.value counters)
+    unfolding pass_result pass_counters
+    repeated l k = rw k at (passes l (rw k) (λ z. omega (arith, k, z)))
+
+    pub else_passed : steps < budget → q.kind ≡ 6 → After (passed x.used p 1) counters
+    unfolding pass_result pass_counters
+    else_passed l k = rw k at (passes l (rw k) (λ z. omega (arith, k, z)))
+
+    pub if_ended : steps < budget → q.kind ≡ 7 → p ≡ 0 → After (passed x.used (x.place + 1) 0) counters
+    unfolding pass_result pass_counters
+    if_ended l k z = rw (k, z) at (passes l (rw k) (λ y. omega (arith, k, y)))
+
+    pub turn_ended :
+        steps < budget → q.kind ≡ 7 → (p ≡ 0 → ⊥) → After (counted (loop_end_result x p counters)) (loop_end_counters x counters)
+    unfolding pass_result pass_counters
+    turn_ended l k n = rw (k, ne_eqb p 0 n) at (passes l (rw k) (λ y. omega (arith, k, y)))
+
+    -- a repeat finds a free counter, and the end of a repeat finds one in use
+    pub few_used : x.used ≤ 8
+    few_used = omega (arith, used_is, g.few)
+
+    pub free_counter : q.kind ≡ 4 → x.used < 8
+    free_counter k = enters k g.body g.frames used_is g.here g.around
       where
         is4 : ℕ → Bool
         is4 k = eqb k 4
@@ -366,18 +371,44 @@ module _ {script table : List ℕ} {whole : WalkEnd} {events lent : List ℕ} {b
         enters k (if port width v b rest) fs u h a = absurd (unlike is4 _ h.0.1 refl (eq-eqb _ _ k))
         enters k (if_else port width v b c rest) fs u h a = absurd (unlike is4 _ h.0.1 refl (eq-eqb _ _ k))
 
-        turning : (q.kind ≡ 4 → ⊥) → (q.kind ≡ 6 → ⊥) → (p ≡ 0 → ⊥) → (b : Body) (fs : List Frame) → x.used ≡ depth fs
-            → Ready script table x.place (depth fs) b → Around script table (records_end x.place b) fs → 0 < x.used
-        turning y z n done (in_repeat more at b rest ∷ fs) u h a = omega (arith, u)
-        turning y z n done (in_then c rest ∷ fs) u h a = absurd (z (kind_is else_record a.0.1))
-        turning y z n done (in_last rest ∷ fs) u h a = absurd (n (fp ∙ a.1))
-        turning y z n done [] u h a = absurd (omega (arith, m, a))
-        turning y z n (repeat c b rest) fs u h a = absurd (y (kind_is _ h.0.1))
-        turning y z n (write port width v rest) fs u h a = absurd (other na _ h.0.1 refl)
-        turning y z n (read port width rest) fs u h a = absurd (other na _ h.0.1 refl)
-        turning y z n (delay c rest) fs u h a = absurd (nd (kind_is _ h.0.1))
-        turning y z n (if port width v b rest) fs u h a = absurd (other na _ h.0.1 refl)
-        turning y z n (if_else port width v b c rest) fs u h a = absurd (other na _ h.0.1 refl)
+    pub counter_used : q.kind ≡ 7 → (p ≡ 0 → ⊥) → 0 < x.used
+    counter_used k n = turning g.body g.frames used_is g.here g.around
+      where
+        is7 : ℕ → Bool
+        is7 k = eqb k 7
+
+        turning : (b : Body) (fs : List Frame) → x.used ≡ depth fs → Ready script table x.place (depth fs) b
+            → Around script table (records_end x.place b) fs → 0 < x.used
+        turning done (in_repeat more at b rest ∷ fs) u h a = omega (arith, u)
+        turning done (in_then c rest ∷ fs) u h a = absurd (unlike is7 else_record a.0.1 refl (eq-eqb _ _ k))
+        turning done (in_last rest ∷ fs) u h a = absurd (n (fp ∙ a.1))
+        turning done [] u h a = absurd (omega (arith, m, a))
+        turning (repeat c b rest) fs u h a = absurd (unlike is7 _ h.0.1 refl (eq-eqb _ _ k))
+        turning (write port width v rest) fs u h a = absurd (unlike is7 _ h.0.1 refl (eq-eqb _ _ k))
+        turning (read port width rest) fs u h a = absurd (unlike is7 _ h.0.1 refl (eq-eqb _ _ k))
+        turning (delay c rest) fs u h a = absurd (unlike is7 _ h.0.1 refl (eq-eqb _ _ k))
+        turning (if port width v b rest) fs u h a = absurd (unlike is7 _ h.0.1 refl (eq-eqb _ _ k))
+        turning (if_else port width v b c rest) fs u h a = absurd (unlike is7 _ h.0.1 refl (eq-eqb _ _ k))
+
+    -- the kind is one of the seven
+    pub known : (1 ≤ q.kind) × (q.kind ≤ 7)
+    known = pick g.body g.frames g.here g.around
+      where
+        is : (r : Record) → record_at script (12 * x.place) ≡ r → (1 ≤ r.kind) × (r.kind ≤ 7) → (1 ≤ q.kind) × (q.kind ≤ 7)
+        is r e h = rw (kind_is r e) h
+
+        pick : (b : Body) (fs : List Frame) → Ready script table x.place (depth fs) b
+            → Around script table (records_end x.place b) fs → (1 ≤ q.kind) × (q.kind ≤ 7)
+        pick done [] h a = absurd (omega (arith, m, a))
+        pick done (in_repeat more at b rest ∷ fs) h a = is end_record a.0.1 (omega arith, omega arith)
+        pick done (in_then c rest ∷ fs) h a = is else_record a.0.1 (omega arith, omega arith)
+        pick done (in_last rest ∷ fs) h a = is end_record a.0.1 (omega arith, omega arith)
+        pick (write port width v rest) fs h a = is _ h.0.1 (omega arith, omega arith)
+        pick (read port width rest) fs h a = is _ h.0.1 (omega arith, omega arith)
+        pick (delay n rest) fs h a = is _ h.0.1 (omega arith, omega arith)
+        pick (repeat n b rest) fs h a = is _ h.0.1 (omega arith, omega arith)
+        pick (if port width v b rest) fs h a = is _ h.0.1 (omega arith, omega arith)
+        pick (if_else port width v b c rest) fs h a = is _ h.0.1 (omega arith, omega arith)
 
     -- ---- a delay
     abbrev is3 : ℕ → Bool
@@ -474,7 +505,6 @@ module _ {script table : List ℕ} {whole : WalkEnd} {events lent : List ℕ} {b
       wrote : (port width v : ℕ) (rest : Body) (fs : List Frame) → Remains rest fs (one_step (after_write port width v) g.present)
           → Ready script table x.place (depth fs) (write port width v rest) → Around script table (records_end (suc x.place) rest) fs
           → counts fs ≡ counts g.frames → Goal
-      unfolding answer_place
       wrote port width v rest fs w h a c =
           let s = script_record 1 width port v in
           let n = answer_of s h.0.1 in
@@ -486,7 +516,6 @@ module _ {script table : List ℕ} {whole : WalkEnd} {events lent : List ℕ} {b
           → Remains rest fs (one_step (after_read port width) g.present)
           → Ready script table x.place (depth fs) (read port width rest) → Around script table (records_end (suc x.place) rest) fs
           → counts fs ≡ counts g.frames → Goal
-      unfolding answer_place
       logged_read port width rest fs room w h a c =
           let s = script_record 2 width port 0 in
           let n = answer_of s h.0.1 in
@@ -499,7 +528,6 @@ module _ {script table : List ℕ} {whole : WalkEnd} {events lent : List ℕ} {b
           → cond (shares_one port width mask g.present.world) (x.place + 1) p ≡ place
           → Remains b fs (one_step (after_test port width) g.present) → Ready script table place (depth fs) b
           → Around script table (records_end place b) fs → counts fs ≡ counts g.frames → Goal
-      unfolding answer_place
       tested port width mask b fs place e z w h a c =
           let s = script_record 5 width port mask in
           let n = answer_of s e in

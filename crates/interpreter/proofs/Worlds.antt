@@ -5,9 +5,8 @@ use mathlib.Core.List.{List, [], append-nil}
 use native.Mathlib.Numerals.{add-one}
 use lib.ListN.{drop, length, set}
 use Rattle.access.specs.declared.Access.{Access}
-use Rattle.device.specs.Dispatch.{device_access}
+use Rattle.device.specs.Dispatch.{AccessResult, device_access}
 use Rattle.device.specs.Event.{apply_event, tick_event}
-use Rattle.device.specs.declared.AccessResult.{AccessResult}
 use Rattle.device.specs.declared.Device.{Device}
 use Rattle.log_entry.specs.Entry.{log_entry}
 use Rattle.mask.specs.Mask.{has_bit}

@@ -3,13 +3,11 @@ use Rattle.std.specs.Prelude.{ℕ, ◌-◌, cond, List, eqb, length}
 use Rattle.device.specs.Device.{device_in_range}
 use Rattle.device.specs.declared.Device.{Device}
 use Rattle.outcome.specs.Number as number
-use Rattle.outcome.specs.Refusal.{refusal}
-use Rattle.outcome.specs.declared.Refusal.{Refusal}
+use Rattle.outcome.specs.Refusal.{Refusal, refusal}
 use Rattle.script.specs.Refusals.{script_refusal}
 use Rattle.sequencer.specs.Run.{events_refusal}
 use Rattle.step.specs.Step.{log_filled}
 use Rattle.interpreter.specs.Walk.{WalkEnd, script_walk}
-use Rattle.interpreter.specs.declared.InterpretResult.{InterpretResult}
 
 -- "Refusals: the script's 1 to 8, then 11 for the device and 12." They are those of compiling, and then of running from a fresh sequencer (`same_run`
 -- and `same_refusal` of `InterpreterCorrect` in `correct`)
@@ -17,6 +15,16 @@ unfoldable pub interpret_refusal : List ℕ → Device → List ℕ → Refusal
 interpret_refusal script d events =
     cond (eqb (script_refusal script).number 0) (cond (device_in_range d) (events_refusal events) (refusal number.bad_state 0))
     (script_refusal script)
+
+-- the answer of the call in the numbers of document 01: `outcome` is the ending or the number of a refusal, `place` the place of a refusal, 0 for
+-- an ending
+pub record InterpretResult : Type 0 where
+  pub outcome : ℕ
+  pub place : ℕ
+  pub steps : ℕ
+  pub taken : ℕ
+  pub logged : ℕ
+  pub device : Device
 
 abbrev pub walk_result : List ℕ → WalkEnd → InterpretResult
 walk_result events e = record {

@@ -1,4 +1,5 @@
 pub mod Walk
 pub mod Interpret
+pub mod Interpreted
 pub mod Partners
 pub mod State

@@ -1,7 +1,6 @@
 -- The table of partners: for each record that opens, parts or closes a block, the place where the walk continues if it does not go on with
 -- the next record. Only contracts and proofs inside this crate use this file.
-use Rattle.std.specs.Prelude.{ℕ, suc, ◌≤◌, ◌<◌, ◌≡◌, cond, List, [], ◌∷◌, eqb, leb, get_or, length, replicate, set}
-use Rattle.lists.specs.Stack.{stack_of}
+use Rattle.std.specs.Prelude.{ℕ, suc, ◌<◌, ◌≡◌, cond, List, [], ◌∷◌, eqb, leb, length, replicate, set}
 use Rattle.record.specs.Record.{most_records}
 use Rattle.record.specs.declared.Record.{Record}
 use Rattle.script.specs.Kind as kind
@@ -27,28 +26,27 @@ with_record k at p =
     (cond (eqb k kind.repeat) (partners (set after (innermost p.closers) (suc at)) (outer p.closers))
     (partners after (outer p.closers))))
 
--- the table of a list of records, the first of which is at a place; a write, a read and a delay have no entry
+-- the same for a record of any kind; a write, a read and a delay have no entry
+abbrev pub added : (kind place : ℕ) → Partners → Partners
+added k at p = cond (leb k kind.delay) p (with_record k at p)
+
+-- the table of a list of records, the first of which is at a place
 abbrev pub partners_from : List Record → ℕ → Partners
 partners_from [] at = partners (replicate most_records 0) []
-partners_from (r ∷ rs) at =
-    cond (leb r.kind kind.delay) (partners_from rs (suc at)) (with_record r.kind at (partners_from rs (suc at)))
+partners_from (r ∷ rs) at = added r.kind at (partners_from rs (suc at))
 
 unfoldable pub script_partners : List ℕ → List ℕ
 script_partners script = (partners_from (records_of script) 0).table
 
--- ---- the arrays of the code
--- the array of the waiting ends and elses has room for one of every open block, and the places in it are those of records
-pub record ClosersArray (closers : List ℕ) : Type 0 where
-  pub sized : length closers ≡ most_blocks
-  pub small : (k : ℕ) → get_or closers k 0 < most_records
+-- ---- the code
+-- the waiting ends and elses are at places of records
+abbrev pub ArePlaces : List ℕ → Type 0
+ArePlaces [] = Unit {0}
+ArePlaces (c ∷ cs) = (c < most_records) × ArePlaces cs
 
--- a record of this kind can be added while `depth` ends and elses wait: there is room for an end, and every other record finds one
-pub record RoomFor (k depth : ℕ) : Type 0 where
-  pub few : depth ≤ most_blocks
-  pub fewer : k ≡ kind.end → depth < most_blocks
-  pub some : (k ≡ kind.end → ⊥) → 0 < depth
-
--- the arrays after a record are those of `with_record`
-pub record WithRecord (kind place : ℕ) (table closers : List ℕ) (depth : ℕ) (table' closers' : List ℕ) (depth' : ℕ) : Type 0 where
-  pub array : ClosersArray closers'
-  pub same : partners table' (stack_of depth' closers') ≡ with_record kind place (partners table (stack_of depth closers))
+-- a record of this kind can be added while these ends and elses wait: there is room for an end, and every other record that opens or parts a
+-- block finds one
+pub record RoomFor (k : ℕ) (closers : List ℕ) : Type 0 where
+  pub places : ArePlaces closers
+  pub fewer : k ≡ kind.end → length closers < most_blocks
+  pub some : kind.delay < k → (k ≡ kind.end → ⊥) → 0 < length closers

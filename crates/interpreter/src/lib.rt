@@ -6,29 +6,31 @@
 mod partners;
 mod walk;
 
-ghost use Rattle.std.specs.Prelude.{◌≡◌, ◌*◌, ◌≤◌, drop, length};
+ghost use Rattle.std.specs.Prelude.{◌≡◌, ◌*◌, IfErr, drop, length, min};
+ghost use Rattle.outcome.specs.Refused.{refusal_in, refusal_of};
 ghost use Rattle.record.specs.Record.{record_size};
 ghost use Rattle.script.specs.Refusals.{script_refusal};
 ghost use Rattle.interpreter.specs.Interpret.{interpret_refusal, interpret_result, interpret_log};
+ghost use Rattle.interpreter.specs.Interpreted.{interpreted, interpret_of};
 ghost use Rattle.interpreter.specs.State.{EndsAs};
 ghost use Rattle.interpreter.specs.Walk.{script_walk};
 
 use device::Device;
-use outcome::Refusal;
+use outcome::{Ending, RefusalKind, Refused};
 use record::Record;
 
-// The answer. `outcome` is the ending or the number of a refusal, `place` the place of a refusal, 0 for an ending.
+// The answer of a walk that is not refused.
 #[derive(Clone, Copy)]
 pub struct InterpretResult {
-    pub outcome: u32,
-    pub place: u32,
+    pub ending: Ending,
     pub steps: u32,
     pub taken: usize,
     pub logged: usize,
     pub device: Device,
 }
 
-// A script, and the place in it from which it is read. `interpret` reads from place 0.
+// A script, and the place in it from which it is read. `interpret` reads from place 0. Document 01 asks for this form: "A small reader holding
+// the script slice and place; few thin functions over covered ones taking slice and number." So the other parameters of a call are passed on one by one.
 #[derive(Clone, Copy)]
 struct Reader<'a> {
     script: &'a [u8],
@@ -36,26 +38,21 @@ struct Reader<'a> {
 }
 
 // Refusals 1 to 8 of the script, then 11 for the device, then 12 for the events.
-fn refusal(script: &[u8], device: Device, events: &[u32]) -> Refusal
-    ensures { result ≡ interpret_refusal script.now device events.now }
+fn refusal(script: &[u8], device: Device, events: &[u32]) -> Result<(), Refused>
+    ensures { refusal_in result ≡ interpret_refusal script.now device events.now }
 {
-    let scan = script::scan(script);
-    if scan.number != 0 {
-        return Refusal {
-            number: scan.number,
-            place: scan.place,
-        };
+    script::scan(script)?;
+    if !device.in_range() {
+        return Err(Refused {
+            kind: RefusalKind::BadState,
+            place: 0,
+        });
     }
-    if device.in_range() {
-        return sequencer::events_refusal(events);
-    }
-    Refusal {
-        number: outcome::BAD_STATE,
-        place: 0,
-    }
+    sequencer::events_refusal(events)
 }
 
-// Walks through a script that is not refused.
+// Walks through a script that is not refused. The three functions that need an accepted script say so themselves: a struct for it would be a
+// second `Reader`.
 fn walk_accepted(
     script: &[u8],
     device: Device,
@@ -66,99 +63,60 @@ fn walk_accepted(
     requires { (script_refusal script.now).number ≡ 0 }
     ensures { EndsAs events.now log.old log.new result (script_walk script.now device events.now budget (length log.old)) }
 {
-    let mut table: [usize; partners::TABLE_SIZE] = [0; partners::TABLE_SIZE];
-    partners::fill(script, script.len() / Record::SIZE, &mut table);
+    let mut table = [0; partners::TABLE_SIZE];
+    partners::fill(script, &mut table);
     walk::walk_script(script, &table, device, events, budget, log)
-}
-
-// Runs a script, given the refusal of the call.
-fn run_script(
-    script: &[u8],
-    refusal: Refusal,
-    device: Device,
-    events: &[u32],
-    budget: u32,
-    log: &mut [u64],
-) -> InterpretResult
-    requires { refusal ≡ interpret_refusal script.now device events.now }
-    ensures { (result ≡ interpret_result script.now device events.now budget log.old) × (log.new ≡ interpret_log script.now device events.now budget log.old) }
-{
-    if refusal.number != 0 {
-        return InterpretResult {
-            outcome: refusal.number,
-            place: refusal.place,
-            steps: 0,
-            taken: 0,
-            logged: 0,
-            device,
-        };
-    }
-    walk_accepted(script, device, events, budget, log)
 }
 
 // The offset of the record at a place, or the script's length if the script ends before it.
 fn offset(length: usize, place: usize) -> usize
-    ensures { (result ≤ length) × (record_size * place ≤ length → result ≡ record_size * place) × (length ≤ record_size * place → result ≡ length) }
+    ensures { result ≡ min (record_size * place) length }
 {
-    if length / Record::SIZE < place {
-        return length;
-    }
-    Record::SIZE * place
+    Record::SIZE.saturating_mul(place).min(length)
 }
 
 // The refusal of the records from a place on, as a script.
-fn refusal_at(script: &[u8], place: usize, device: Device, events: &[u32]) -> Refusal
-    ensures { result ≡ interpret_refusal (drop (record_size * place) script.now) device events.now }
+fn refusal_at(script: &[u8], place: usize, device: Device, events: &[u32]) -> Result<(), Refused>
+    ensures { refusal_in result ≡ interpret_refusal (drop (record_size * place) script.now) device events.now }
 {
-    let at = offset(script.len(), place);
-    refusal(&script[at..], device, events)
+    refusal(&script[offset(script.len(), place)..], device, events)
 }
 
-// Runs the records from a place on, as a script, given the refusal of the call.
+// Runs the records from a place on, as a script that is not refused.
 fn run_at(
     script: &[u8],
     place: usize,
-    refusal: Refusal,
     device: Device,
     events: &[u32],
     budget: u32,
     log: &mut [u64],
 ) -> InterpretResult
-    requires { refusal ≡ interpret_refusal (drop (record_size * place) script.now) device events.now }
-    ensures { (result ≡ interpret_result (drop (record_size * place) script.now) device events.now budget log.old) × (log.new ≡ interpret_log (drop (record_size * place) script.now) device events.now budget log.old) }
+    requires { (interpret_refusal (drop (record_size * place) script.now) device events.now).number ≡ 0 }
+    ensures { (interpret_of result ≡ interpret_result (drop (record_size * place) script.now) device events.now budget log.old) × (log.new ≡ interpret_log (drop (record_size * place) script.now) device events.now budget log.old) }
 {
     let at = offset(script.len(), place);
-    run_script(&script[at..], refusal, device, events, budget, log)
+    walk_accepted(&script[at..], device, events, budget, log)
 }
 
 // The refusal of the records from the reader's place on, as a script.
-fn check<'a, 'e>(reader: Reader<'a>, device: Device, events: &'e [u32]) -> Refusal
-    ensures { result ≡ interpret_refusal (drop (record_size * reader.entry.place) reader.entry.script.now) device events.now }
+fn check<'a, 'e>(reader: Reader<'a>, device: Device, events: &'e [u32]) -> Result<(), Refused>
+    ensures { refusal_in result ≡ interpret_refusal (drop (record_size * reader.entry.place) reader.entry.script.now) device events.now }
 {
     refusal_at(reader.script, reader.place, device, events)
 }
 
-// Runs the records from the reader's place on, as a script, given the refusal of the call.
+// Runs the records from the reader's place on, as a script that is not refused.
 fn run<'a, 'e, 'l>(
     reader: Reader<'a>,
-    refusal: Refusal,
     device: Device,
     events: &'e [u32],
     budget: u32,
     log: &'l mut [u64],
 ) -> InterpretResult
-    requires { refusal ≡ interpret_refusal (drop (record_size * reader.place) reader.script.now) device events.now }
-    ensures { (result ≡ interpret_result (drop (record_size * reader.entry.place) reader.entry.script.now) device events.now budget log.old) × (log.new ≡ interpret_log (drop (record_size * reader.entry.place) reader.entry.script.now) device events.now budget log.old) }
+    requires { (interpret_refusal (drop (record_size * reader.place) reader.script.now) device events.now).number ≡ 0 }
+    ensures { (interpret_of result ≡ interpret_result (drop (record_size * reader.entry.place) reader.entry.script.now) device events.now budget log.old) × (log.new ≡ interpret_log (drop (record_size * reader.entry.place) reader.entry.script.now) device events.now budget log.old) }
 {
-    run_at(
-        reader.script,
-        reader.place,
-        refusal,
-        device,
-        events,
-        budget,
-        log,
-    )
+    run_at(reader.script, reader.place, device, events, budget, log)
 }
 
 // Runs a script without compiling it. A refusal changes nothing.
@@ -168,10 +126,11 @@ pub fn interpret(
     events: &[u32],
     budget: u32,
     log: &mut [u64],
-) -> InterpretResult
-    ensures { (result ≡ interpret_result script.now device events.now budget log.old) × (log.new ≡ interpret_log script.now device events.now budget log.old) }
+) -> Result<InterpretResult, Refused>
+    ensures value { (interpreted device result ≡ interpret_result script.now device events.now budget log.old) × (log.new ≡ interpret_log script.now device events.now budget log.old) }
+    ensures refused { IfErr result (λ refused. refusal_of refused ≡ interpret_refusal script.now device events.now) }
 {
     let reader = Reader { script, place: 0 };
-    let refusal = check(reader, device, events);
-    run(reader, refusal, device, events, budget, log)
+    check(reader, device, events)?;
+    Ok(run(reader, device, events, budget, log))
 }

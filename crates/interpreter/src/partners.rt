@@ -6,59 +6,57 @@
 //   else              the place after its end
 //   end of a repeat   the place of its body
 //   end of an if      0: the walk goes on with the next record
-ghost use Rattle.std.specs.Prelude.{◌≡◌, ◌<◌, ◌/◌, length, replicate};
-ghost use Rattle.record.specs.Record.{most_records, record_size};
+//
+// 0 is the partner of no other record. An `Option` in its place would make the table, which each call clears, twice as long.
+ghost use Rattle.std.specs.Prelude.{◌≡◌, ◌<◌, replicate};
+ghost use Rattle.record.specs.Record.{most_records};
+ghost use Rattle.script.specs.Kinds.{kind_number};
 ghost use Rattle.script.specs.Refusals.{script_refusal};
-ghost use Rattle.interpreter.specs.Partners.{ClosersArray, RoomFor, WithRecord, script_partners};
+ghost use Rattle.interpreter.specs.Partners.{ArePlaces, RoomFor, added, partners, script_partners};
 
+use lists::array_stack::ArrayStack;
 use record::Record;
+use script::MOST_BLOCKS;
+use script::kind::{RecordKind, kind_of};
 
 // A place for every record of the longest script.
 pub const TABLE_SIZE: usize = Record::MOST;
 
-// Adds the record at a place. Returns the number of waiting ends and elses.
-fn add_record(
-    partners: &mut [usize; TABLE_SIZE],
-    closers: &mut [usize; script::MOST_BLOCKS],
-    depth: usize,
-    kind: u32,
-    place: usize,
-) -> usize
-    requires { (place < most_records) × RoomFor kind depth × ClosersArray closers.old }
-    ensures { WithRecord kind place partners.old closers.old depth partners.new closers.new result }
+// The places of the ends and elses that wait for the record which opens their block: one for each open block.
+type Closers = ArrayStack<u32, MOST_BLOCKS>;
+
+// Adds the record at a place.
+fn add_record(table: &mut [u32; TABLE_SIZE], closers: &mut Closers, kind: RecordKind, place: u32)
+    requires { (place < most_records) × RoomFor (kind_number kind) closers.old }
+    ensures added { partners table.new closers.new ≡ added (kind_number kind) place (partners table.old closers.old) }
+    ensures places { ArePlaces closers.new }
 {
-    if kind == script::END {
-        closers[depth] = place;
-        return depth + 1;
+    match kind {
+        RecordKind::Write | RecordKind::Read | RecordKind::Delay => {}
+        RecordKind::Repeat => {
+            let end = closers.pop().unwrap();
+            table[place as usize] = end + 1;
+            table[end as usize] = place + 1;
+        }
+        RecordKind::If => table[place as usize] = closers.pop().unwrap() + 1,
+        RecordKind::Else => {
+            table[place as usize] = closers.pop().unwrap() + 1;
+            closers.push(place);
+        }
+        RecordKind::End => closers.push(place),
     }
-    // The innermost waiting end or else closes this block.
-    let around = depth - 1;
-    let closer = closers[around];
-    partners[place] = closer + 1;
-    if kind == script::ELSE {
-        closers[around] = place;
-        return depth;
-    }
-    if kind == script::REPEAT {
-        partners[closer] = place + 1;
-    }
-    around
 }
 
 // Fills the table of an accepted script, which is 0 before.
-pub fn fill(script: &[u8], count: usize, partners: &mut [usize; TABLE_SIZE])
-    requires { ((script_refusal script.now).number ≡ 0) × (count ≡ length script.now / record_size) × (partners.old ≡ replicate most_records 0) }
-    ensures { partners.new ≡ script_partners script.now }
+pub fn fill(script: &[u8], table: &mut [u32; TABLE_SIZE])
+    requires { ((script_refusal script.now).number ≡ 0) × (table.old ≡ replicate most_records 0) }
+    ensures { table.new ≡ script_partners script.now }
 {
-    // One end or else waits for each open block.
-    let mut closers: [usize; script::MOST_BLOCKS] = [0; script::MOST_BLOCKS];
-    let mut depth: usize = 0;
-    let mut k: usize = count;
-    while 0 < k {
-        k = k - 1;
-        let kind = record::kind_at(script, Record::SIZE * k);
-        if script::DELAY < kind {
-            depth = add_record(partners, &mut closers, depth, kind, k);
-        }
+    let count = (script.len() / Record::SIZE) as u32;
+    let mut closers: Closers = ArrayStack::new(0);
+    // By place, as `records_from` reads the records: the table has places.
+    for place in (0..count).rev() {
+        let kind = kind_of(record::kind_at(script, Record::SIZE * place as usize));
+        add_record(table, &mut closers, kind, place);
     }
 }

@@ -1,9 +1,8 @@
 -- The 32 key bytes, under the read-lock and the write-lock of key control. See docs/CHIP.md, "Key".
 use Rattle.std.specs.Prelude.{ℕ, ◌%◌, cond, ltb, get_or, set, replicate}
 use Rattle.access.specs.declared.Access.{Access}
-use Rattle.access.specs.declared.Answer.{Answer}
 use Rattle.access.specs.Block.{Result, with_block, status, takes_byte}
-use Rattle.access.specs.Status.{done, status_only}
+use Rattle.access.specs.Status.{Answer, done, status_only}
 use Rattle.mask.specs.Mask.{has_bit}
 use Rattle.key.specs.Saved.{key_size}
 use Rattle.key.specs.declared.Key.{Key}

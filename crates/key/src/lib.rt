@@ -2,22 +2,17 @@
 // `device` calls it. Key control belongs to the configuration, so the device passes it with each access.
 #![tactic(auto)]
 
-ghost use Rattle.std.specs.Prelude.{◌≡◌, ◌%◌, ◌<◌, length};
-ghost use Rattle.access.specs.Block.{with_block, status};
+ghost use Rattle.std.specs.Prelude.{◌≡◌, ◌<◌, length};
+ghost use Rattle.access.specs.Block.{reply_of};
+ghost use Rattle.access.specs.Status.{answer_of};
 ghost use Rattle.key.specs.Key.{fresh_key, key_reset, key_read, key_write, key_access};
 ghost use Rattle.key.specs.Saved.{key_bytes, key_from, key_size};
 
-use access::{Access, Answer};
+use access::{Access, Answer, Reply, Status};
 
 #[derive(Clone, Copy)]
 pub struct Key {
     pub bytes: [u8; 32],
-}
-
-#[derive(Clone, Copy)]
-pub struct AccessResult {
-    pub block: Key,
-    pub answer: Answer,
 }
 
 impl Key {
@@ -38,6 +33,7 @@ impl Key {
         Key { bytes: [0; 32] }
     }
 
+    // The level is a number, since `key_reset` says what any number does.
     pub fn reset(self, level: u32) -> Self
         ensures { result ≡ key_reset self level }
     {
@@ -48,52 +44,46 @@ impl Key {
     }
 
     // An access to the key byte at an offset. `control` is key control.
-    pub fn access(self, control: u8, offset: u32, access: Access) -> AccessResult
+    #[tactic(auto, unfolding(crate::specs::Key::key_access))]
+    pub fn access(self, control: u8, offset: u32, access: Access) -> Reply<Key>
         requires { offset < key_size }
-        ensures { with_block result.answer result.block ≡ key_access self control offset access }
+        ensures { reply_of result ≡ key_access self control offset access }
     {
         if !access::takes_byte(access.width) {
-            return self.status(Answer::UNCLAIMED);
+            return Reply::status(Status::Unclaimed, self);
         }
         let at = offset as usize;
         if access.write {
             return self.write(control, at, (access.value % 256) as u8);
         }
-        AccessResult {
-            answer: self.read(control, at),
+        Reply {
             block: self,
+            answer: self.read(control, at),
         }
     }
 
+    // `at` is below 32 here, in `write` and in `access`: a type for that fact would need a view of its own for three short functions.
+    #[tactic(auto, unfolding(crate::specs::Key::key_read))]
     fn read(self, control: u8, at: usize) -> Answer
         requires { at < key_size }
-        ensures { result ≡ key_read self control at }
+        ensures { answer_of result ≡ key_read self control at }
     {
-        if mask::has8(control, Key::READ_LOCK) {
-            return Answer::status_only(Answer::BLOCKED);
+        if control & Key::READ_LOCK != 0 {
+            return Answer::status_only(Status::Blocked);
         }
-        Answer::done(mask::wide8(self.bytes[at]))
+        Answer::done(u32::from(self.bytes[at]))
     }
 
-    fn write(mut self, control: u8, at: usize, value: u8) -> AccessResult
+    #[tactic(auto, unfolding(crate::specs::Key::key_write))]
+    fn write(mut self, control: u8, at: usize, value: u8) -> Reply<Key>
         requires { at < key_size }
-        ensures { with_block result.answer result.block ≡ key_write self control at value }
+        ensures { reply_of result ≡ key_write self control at value }
     {
-        if mask::has8(control, Key::WRITE_LOCK) {
-            return self.status(Answer::BLOCKED);
+        if control & Key::WRITE_LOCK != 0 {
+            return Reply::status(Status::Blocked, self);
         }
         self.bytes[at] = value;
-        self.status(Answer::DONE)
-    }
-
-    // An answer with a status and no value.
-    fn status(self, code: u32) -> AccessResult
-        ensures { with_block result.answer result.block ≡ status code self }
-    {
-        AccessResult {
-            answer: Answer::status_only(code),
-            block: self,
-        }
+        Reply::status(Status::Done, self)
     }
 
     pub fn to_bytes(self) -> [u8; Key::SIZE]
@@ -102,14 +92,13 @@ impl Key {
         self.bytes
     }
 
+    // A slice, not an array: `state` cuts it out of a slice, and a cut is a slice.
     pub fn from_bytes(bytes: &[u8]) -> Self
         requires { length bytes.now ≡ key_size }
         ensures { result ≡ key_from bytes.now }
     {
-        let mut key = [0u8; 32];
-        for k in 0..32 {
-            key[k] = bytes[k];
-        }
+        let mut key = [0; Key::SIZE];
+        key.copy_from_slice(bytes);
         Key { bytes: key }
     }
 }

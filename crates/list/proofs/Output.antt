@@ -10,10 +10,8 @@ use lib.ListN.{drop, length, take}
 use lib.Seq.{length-take-le, take_at}
 use Rattle.lister.proofs.Answers.{no_fault}
 use Rattle.lister.proofs.Lengths.{lines_most}
-use Rattle.lister.specs.Listing.{answer, first_wrong, list_refusal, list_result, listing, script_fault, text_after, with_text}
-use Rattle.lister.specs.declared.ListResult.{ListResult}
-use Rattle.outcome.specs.Refusal.{refusal}
-use Rattle.outcome.specs.declared.Refusal.{Refusal}
+use Rattle.lister.specs.Listing.{ListResult, answer, first_wrong, list_refusal, list_result, listing, script_fault, text_after, with_text}
+use Rattle.outcome.specs.Refusal.{Refusal, refusal}
 use Rattle.script.proofs.Grammar.{records_length}
 use Rattle.script.proofs.Records.{few_records_lem}
 use Rattle.script.specs.Records.{records_of}

@@ -1,7 +1,6 @@
 -- What `list` writes to standard output, and which refusal it prints. See docs/TEXT.md, "Listing".
 use Rattle.std.specs.Prelude.{ℕ, ◌≡◌, cond, List, [], eqb}
-use Rattle.lister.specs.Listing.{listing, script_fault}
-use Rattle.lister.specs.declared.ListResult.{ListResult}
+use Rattle.lister.specs.Listing.{ListResult, listing, script_fault}
 use Rattle.refusal_text.specs.Refused.{Put}
 
 -- the listing of the script; nothing if it is refused

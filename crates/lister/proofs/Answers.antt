@@ -7,8 +7,7 @@ use borrow.Author.Tests.{le-ltb, lt-ltb, ne_eqb}
 use lib.Dec.{eqb}
 use lib.ListN.{length}
 use Rattle.outcome.specs.Refusal.{refusal}
-use Rattle.lister.specs.Listing.{list_refusal, list_result, listing, measured, refused_at, script_fault, text_after, with_text}
-use Rattle.lister.specs.declared.ListResult.{ListResult}
+use Rattle.lister.specs.Listing.{ListResult, list_refusal, list_result, listing, measured, refused_at, script_fault, text_after, with_text}
 use Rattle.lister.proofs.Faults.{no_refusal_lem, none_of}
 
 -- without a fault, the place is 0 too

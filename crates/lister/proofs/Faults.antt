@@ -11,8 +11,7 @@ use native.Mathlib.Omega.{arith}
 use Rattle.lists.proofs.Tests.{none_from}
 use Rattle.lists.specs.All.{All}
 use Rattle.mask.proofs.Every.{neither}
-use Rattle.outcome.specs.Refusal.{refusal}
-use Rattle.outcome.specs.declared.Refusal.{Refusal}
+use Rattle.outcome.specs.Refusal.{Refusal, refusal}
 use Rattle.record.specs.declared.Record.{Record}
 use Rattle.script.specs.Records.{record_count, records_of}
 use Rattle.script.specs.Refusals.{bad_fields, bad_kind, bad_length, first_fault, innermost, misplaced, open_after, record_fault, script_refusal, too_deep, too_many_words, wrong_mark}

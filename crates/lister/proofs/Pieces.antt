@@ -1,103 +1,37 @@
 -- The pieces of a line, put one after the other: spaces, accesses and statements. Also that a text that fits is written completely.
-use Prim.Native.Nat.{ℕ, suc, ◌+◌, ◌-◌, ◌*◌, ◌≤◌, ◌<◌}
-use mathlib.Core.Path.{◌≡◌, refl, ap, sym, ◌∙◌}
-use mathlib.Core.Bool.{true, ◌||◌}
-use mathlib.Core.List.{List, [], ◌∷◌, ◌++◌}
-use native.Mathlib.Decide.{dec_lt}
+use Prim.Native.Nat.{ℕ, ◌+◌, ◌≤◌}
+use mathlib.Core.Path.{◌≡◌, refl, ap, ◌∙◌}
+use mathlib.Core.List.{List, [], ◌∷◌}
 use native.Mathlib.Numerals.{add-one}
 use native.Mathlib.Omega.{arith}
-use borrow.Author.Tests.{eq-eqb, le-leb, lt-leb, lt-ltb, ne_eqb}
-use lib.Dec.{eqb}
+use borrow.Author.Tests.{lt-ltb}
 use lib.ListN.{length, length-set, replicate, set}
 use lib.Seq.{sets, sets-eq}
-use Rattle.digits.proofs.Puts.{puts_both}
+use Rattle.std.proofs.lemmas.List.{replicate-append-replicate}
+use Rattle.digits.proofs.Writes.{writes_twice}
 use Rattle.digits.specs.Text.{Line, line_at, put, puts}
+use Rattle.digits.specs.Written.{writes}
+use Rattle.digits.specs.declared.Writer.{Writer}
 use Rattle.record.specs.declared.Record.{Record}
-use Rattle.statement.specs.Grammar.{delay_word, else_word, end_word, if_word, read_word, repeat_word, write_word}
-use Rattle.lister.specs.Listing.{access_text, access_value_text, bytes_text, count_text, line_depth, line_text, margin, margin_length, statement_text, with_text}
+use Rattle.statement.specs.Grammar.{if_word, read_word, write_word}
+use Rattle.lister.specs.Listing.{access_text, access_value_text, statement_text, with_text}
 
--- ---- the margin
-module _ (depth kind : ℕ) where
-  pub inside_block : kind < 6 → depth ≡ line_depth depth kind
-  inside_block h = simp (ne_eqb kind 6 (λ e. omega arith), ne_eqb kind 7 (λ e. omega arith))
+pub next_space : (w : Writer) (k : ℕ) → writes (0x20 ∷ []) (writes (replicate k 0x20) w) ≡ writes (replicate (k + 1) 0x20) w
+next_space w k = rw (writes_twice, ← replicate-append-replicate {A = ℕ} k 1 0x20) refl
 
-  pub one_further_out : 6 ≤ kind → kind ≤ 7 → depth - 1 ≡ line_depth depth kind
-  one_further_out h l = rw closes
-    where
-      closes : (eqb kind 6 || eqb kind 7) ≡ true
-      closes = pick (dec_lt kind 7)
-        where
-          pick : Dec (kind < 7) → (eqb kind 6 || eqb kind 7) ≡ true
-          pick (yes m) = rw (eq-eqb kind 6 (omega arith))
-          pick (no m) = let e : kind ≡ 7 = omega arith in rw e
-
-  pub outermost : depth ≡ 0 → 6 ≤ kind → kind ≤ 7 → 0 ≡ line_depth depth kind
-  outermost z h l =
-      let e : 0 ≡ depth - 1 = omega arith in
-      e ∙ one_further_out h l
-
-  pub widest : (blocks : ℕ) → blocks ≡ line_depth depth kind → 16 < blocks → 64 ≡ margin_length depth kind
-  unfolding margin_length
-  widest blocks e h = rw (← e, lt-leb blocks 16 h)
-
-  pub four_each : (blocks : ℕ) → blocks ≡ line_depth depth kind → blocks ≤ 16 → 4 * blocks ≡ margin_length depth kind
-  unfolding margin_length
-  four_each blocks e h = rw (← e, le-leb blocks 16 h)
-
-pub one_space : (count k : ℕ) → k < count → replicate {A = ℕ} (count - k) 0x20 ≡ 0x20 ∷ replicate (count - (k + 1)) 0x20
-one_space count k h =
-    let e : count - k ≡ suc (count - (k + 1)) = omega arith in
-    rw e
-
-pub no_space : (count k : ℕ) → count ≤ k → replicate {A = ℕ} (count - k) 0x20 ≡ []
-no_space count k h =
-    let e : count - k ≡ 0 = omega arith in
-    rw e
-
--- ---- the statement
-module _ (r : Record) (l : Line) where
-  pub value_put : (m : Line) → m ≡ puts (access_text r) l
-      → put 0x68 (puts (bytes_text r.width r.value) (put 0x20 m)) ≡ puts (access_value_text r) l
-  value_put m e = rw e (sym (puts_both (bytes_text r.width r.value) (0x68 ∷ []) (put 0x20 (puts (access_text r) l))))
-
-  module _ {m n : Line} where
-    pub write_put : r.kind ≡ 1 → m ≡ puts write_word l → n ≡ puts (access_value_text r) m → n ≡ puts (statement_text r) l
-    unfolding statement_text
-    write_put k p q = q ∙ ap (puts (access_value_text r)) p ∙ (rw k)
-
-    pub read_put : r.kind ≡ 2 → m ≡ puts read_word l → n ≡ puts (access_text r) m → n ≡ puts (statement_text r) l
-    unfolding statement_text
-    read_put k p q = q ∙ ap (puts (access_text r)) p ∙ (rw k)
-
-    pub delay_put : r.kind ≡ 3 → m ≡ puts delay_word l → n ≡ puts (count_text r) m → n ≡ puts (statement_text r) l
-    unfolding statement_text
-    delay_put k p q = q ∙ ap (puts (count_text r)) p ∙ (rw k)
-
-    pub repeat_put : r.kind ≡ 4 → m ≡ puts repeat_word l → n ≡ puts (count_text r) m → n ≡ puts (statement_text r) l
-    unfolding statement_text
-    repeat_put k p q = q ∙ ap (puts (count_text r)) p ∙ (rw k)
-
-    pub if_put : r.kind ≡ 5 → m ≡ puts if_word l → n ≡ puts (access_value_text r) m → n ≡ puts (statement_text r) l
-    unfolding statement_text
-    if_put k p q = q ∙ ap (puts (access_value_text r)) p ∙ (rw k)
-
-  pub else_put : {n : Line} → r.kind ≡ 6 → n ≡ puts else_word l → n ≡ puts (statement_text r) l
+-- a statement with an access: its word, and then the access
+module _ (w : Writer) (r : Record) where
+  pub write_put : r.kind ≡ 1 → writes (access_value_text r) (writes write_word w) ≡ writes (statement_text r) w
   unfolding statement_text
-  else_put k q = q ∙ (rw k)
+  write_put k = writes_twice w write_word (access_value_text r) ∙ (rw k)
 
-  pub end_put : {n : Line} → (r.kind ≡ 1 → ⊥) → (r.kind ≡ 2 → ⊥) → (r.kind ≡ 3 → ⊥) → (r.kind ≡ 4 → ⊥) → (r.kind ≡ 5 → ⊥)
-      → (r.kind ≡ 6 → ⊥) → n ≡ puts end_word l → n ≡ puts (statement_text r) l
+  pub read_put : r.kind ≡ 2 → writes (access_text r) (writes read_word w) ≡ writes (statement_text r) w
   unfolding statement_text
-  end_put a b c d e f q = q ∙ (simp (ne_eqb _ _ a, ne_eqb _ _ b, ne_eqb _ _ c, ne_eqb _ _ d, ne_eqb _ _ e, ne_eqb _ _ f))
+  read_put k = writes_twice w read_word (access_text r) ∙ (rw k)
 
-  -- the line: margin, statement, line feed
-  pub line_put : (depth spaces : ℕ) {a b n : Line} → spaces ≡ margin_length depth r.kind → a ≡ puts (replicate spaces 0x20) l
-      → b ≡ puts (statement_text r) a → n ≡ put 0x0A b → n ≡ puts (line_text depth r ++ (0x0A ∷ [])) l
-  unfolding line_text
-  line_put depth spaces e p q s =
-      s
-      ∙ ap (put 0x0A) (q ∙ ap (puts (statement_text r)) (p ∙ (rw e)) ∙ sym (puts_both (margin depth r.kind) (statement_text r) l))
-      ∙ sym (puts_both (margin depth r.kind ++ statement_text r) (0x0A ∷ []) l)
+  pub if_put : r.kind ≡ 5 → writes (access_value_text r) (writes if_word w) ≡ writes (statement_text r) w
+  unfolding statement_text
+  if_put k = writes_twice w if_word (access_value_text r) ∙ (rw k)
 
 -- ---- a text that fits is in the front of the buffer, and the rest of the buffer is as it was
 puts_sets : (xs : List ℕ) (l : Line) → l.at + length xs ≤ length l.text → (puts xs l).text ≡ sets l.text l.at xs

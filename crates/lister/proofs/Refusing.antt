@@ -9,8 +9,7 @@ use borrow.Author.Tests.{eqb-false, eqb-true, ltb-false, ltb-true, ne_eqb}
 use lib.Dec.{eqb, ltb}
 use lib.ListN.{length}
 use Rattle.lists.specs.Tests.{first_from}
-use Rattle.outcome.specs.Refusal.{refusal}
-use Rattle.outcome.specs.declared.Refusal.{Refusal}
+use Rattle.outcome.specs.Refusal.{Refusal, refusal}
 use Rattle.record.specs.declared.Record.{Record}
 use Rattle.script.specs.Records.{records_of}
 use Rattle.script.specs.Refusals.{bad_fields, bad_kind, bad_length, script_refusal, wrong_mark}

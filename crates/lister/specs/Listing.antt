@@ -1,16 +1,16 @@
 -- The listing of a script, and what the lister returns and writes. See docs/TEXT.md, "Listing".
-use Rattle.std.specs.Prelude.{ℕ, suc, ◌+◌, ◌-◌, ◌*◌, ◌/◌, ◌%◌, cond, ◌||◌, List, [], ◌∷◌, ◌++◌, eqb, leb, ltb, drop, length, replicate}
+use Rattle.std.specs.Prelude.{ℕ, suc, ◌+◌, ◌-◌, ◌*◌, ◌/◌, ◌%◌, cond, ◌||◌, List, [], ◌∷◌, ◌++◌, eqb, leb, ltb, drop, length, replicate, Result, Ok, Err}
 use Rattle.digits.specs.Text.{byte_text, decimal_text, hex_text}
 use Rattle.outcome.specs.Number as number
-use Rattle.outcome.specs.Refusal.{refusal}
-use Rattle.outcome.specs.declared.Refusal.{Refusal}
+use Rattle.outcome.specs.Refusal.{Refusal, refusal}
+use Rattle.outcome.specs.Refused.{refusal_number}
+use Rattle.outcome.specs.declared.Refused.{Refused}
 use Rattle.record.specs.declared.Record.{Record}
 use Rattle.script.specs.Kind as kind
 use Rattle.script.specs.Records.{records_of}
 use Rattle.script.specs.Refusals.{bad_length}
 use Rattle.script.specs.Scan.{shape_fault}
 use Rattle.statement.specs.Grammar.{delay_word, else_word, end_word, if_word, read_word, repeat_word, write_word}
-use Rattle.lister.specs.declared.ListResult.{ListResult}
 
 -- ---- the margin of a line; `depth` is the number of blocks that are open before its record
 
@@ -103,6 +103,12 @@ list_refusal script buffer =
     (cond (ltb (length buffer) (length (listing script))) (refusal number.text_too_short 0) (refusal 0 0))
     (script_fault script)
 
+-- refusal 0 and the length of the listing, or a refusal with its place
+pub record ListResult : Type 0 where
+  pub refusal : ℕ
+  pub place : ℕ
+  pub length : ℕ
+
 -- the answer: a refusal, or the length of the listing
 abbrev pub answer : Refusal → ℕ → ListResult
 answer f n = record { refusal = f.number; place = f.place; length = cond (eqb f.number 0) n 0 }
@@ -116,6 +122,11 @@ measured script = answer (script_fault script) (length (listing script))
 
 unfoldable pub list_result : (script buffer : List ℕ) → ListResult
 list_result script buffer = answer (list_refusal script buffer) (length (listing script))
+
+-- the result of a call of `list` as these numbers
+abbrev pub listed : Result ℕ Refused → ListResult
+listed (Ok length) = record { refusal = 0; place = 0; length = length }
+listed (Err r) = refused_at (refusal_number r.kind) r.place
 
 -- a text in the front of a buffer
 unfoldable pub with_text : (text buffer : List ℕ) → List ℕ

@@ -6,8 +6,7 @@ use Rattle.assembler.specs.Grammar.{Text}
 use Rattle.record.specs.declared.Record.{Record}
 use Rattle.script.specs.Records.{record_count, records_of}
 use Rattle.script.specs.Refusals.{bad_fields, bad_kind, bad_length, script_refusal, wrong_mark}
-use Rattle.lister.specs.Listing.{list_result, listing, refused_at, script_fault, text_after}
-use Rattle.lister.specs.declared.ListResult.{ListResult}
+use Rattle.lister.specs.Listing.{ListResult, list_result, listing, refused_at, script_fault, text_after}
 
 -- ---- refusals 1 to 4, in the words of the compiler's table
 

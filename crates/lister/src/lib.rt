@@ -2,11 +2,13 @@
 // length or a refusal. `list` is the only public call; `runnelopal`, `replay` and the program `list` use it. See docs/TEXT.md, "Listing".
 #![tactic(auto)]
 
-ghost use Rattle.std.specs.Prelude.{◌≡◌, [], ◌∷◌, ◌++◌, ◌≤◌, length, replicate};
-ghost use Rattle.digits.specs.Text.{decimal_text, line_at, puts};
+mod shaped_record;
+
+ghost use Rattle.std.specs.Prelude.{◌≡◌, [], ◌∷◌, ◌++◌, ◌+◌, ◌≤◌, length, replicate};
+ghost use Rattle.digits.specs.Text.{decimal_text};
+ghost use Rattle.digits.specs.Written.{writes};
 ghost use Rattle.record.specs.Record.{most_records};
-ghost use Rattle.script.specs.Kind as recordKind;
-ghost use Rattle.script.specs.Scan.{shape_fault};
+ghost use Rattle.script.specs.Kinds.{kind_number};
 ghost use Rattle.lister.specs.Listing.{
   access_text,
   access_value_text,
@@ -17,26 +19,21 @@ ghost use Rattle.lister.specs.Listing.{
   line_depth,
   line_text,
   list_result,
+  listed,
   listing,
   margin_length,
   measured,
   pair_text,
-  refused_at,
   script_fault,
   statement_text,
   text_after,
-  with_text,
 };
 
+use digits::Writer;
+use outcome::{RefusalKind, Refused};
 use record::Record;
-
-// Refusal 0 and the length of the listing, or a refusal with its place.
-#[derive(Clone, Copy)]
-pub struct ListResult {
-    pub refusal: u32,
-    pub place: u32,
-    pub length: usize,
-}
+use script::kind::RecordKind;
+use shaped_record::ShapedRecord;
 
 // The spaces for a block.
 const INDENT: usize = 4;
@@ -47,143 +44,134 @@ const MOST_INDENTED: usize = 16;
 // ---- the margin of a line; `depth` is the number of blocks that are open before its record
 
 // The number of blocks that the line stands in.
-fn line_depth(depth: usize, kind: u32) -> usize
-    requires { kind ≤ recordKind.end }
-    ensures { result ≡ line_depth depth kind }
+fn line_depth(depth: usize, kind: RecordKind) -> usize
+    ensures { result ≡ line_depth depth (kind_number kind) }
 {
-    if kind < script::ELSE {
-        return depth;
+    match kind {
+        RecordKind::Else | RecordKind::End => depth.saturating_sub(1),
+        RecordKind::Write
+        | RecordKind::Read
+        | RecordKind::Delay
+        | RecordKind::Repeat
+        | RecordKind::If => depth,
     }
-    if depth == 0 {
-        return 0;
-    }
-    depth - 1
 }
 
 // The number of spaces at the start of the line.
 #[tactic(auto, unfolding(crate::specs::Listing::margin_length))]
-fn margin_length(depth: usize, kind: u32) -> usize
-    requires { kind ≤ recordKind.end }
-    ensures { result ≡ margin_length depth kind }
+fn margin_length(depth: usize, kind: RecordKind) -> usize
+    ensures { result ≡ margin_length depth (kind_number kind) }
 {
-    let blocks = line_depth(depth, kind);
-    if MOST_INDENTED < blocks {
-        return INDENT * MOST_INDENTED;
-    }
-    INDENT * blocks
+    INDENT * line_depth(depth, kind).min(MOST_INDENTED)
 }
 
 // The number of blocks that are open after the record.
 #[tactic(auto, unfolding(crate::specs::Listing::depth_after))]
-fn depth_after(depth: usize, kind: u32) -> usize
+fn depth_after(depth: usize, kind: RecordKind) -> usize
     requires { depth ≤ most_records }
-    ensures { result ≡ depth_after depth kind }
+    ensures { result ≡ depth_after depth (kind_number kind) }
 {
     match kind {
-        script::REPEAT => depth + 1,
-        script::IF => depth + 1,
-        script::END => {
-            if depth == 0 {
-                return 0;
-            }
-            depth - 1
-        }
-        _ => depth,
+        RecordKind::Repeat | RecordKind::If => depth + 1,
+        RecordKind::End => depth.saturating_sub(1),
+        RecordKind::Write | RecordKind::Read | RecordKind::Delay | RecordKind::Else => depth,
     }
 }
 
-fn put_spaces(text: &mut [u8], at: usize, count: usize) -> usize
-    ensures { line_at text.new result ≡ puts (replicate count 0x20) (line_at text.old at) }
+#[tactic(auto, using(digits::proofs::Writes::writes_none, crate::proofs::Pieces::next_space))]
+fn put_spaces(text: &mut Writer, count: usize)
+    ensures { text.new ≡ writes (replicate count 0x20) text.old }
 {
-    let mut next = at;
-    for k in 0..count {
-        next = digits::put(text, next, b' ');
+    for _ in 0..count {
+        text.put(b' ');
     }
-    next
 }
 
 // ---- the statement of a record
 
 // Puts two bytes in hex.
-fn put_pair(text: &mut [u8], at: usize, n: u32) -> usize
-    ensures { line_at text.new result ≡ puts (pair_text n) (line_at text.old at) }
+#[tactic(auto, using(digits::proofs::Writes::writes_twice))]
+fn put_pair(text: &mut Writer, n: u32)
+    ensures { text.new ≡ writes (pair_text n) text.old }
 {
-    let a = digits::put_byte(text, at, (n / 256 % 256) as u8);
-    digits::put_byte(text, a, (n % 256) as u8)
+    let [_, _, high, low] = n.to_be_bytes();
+    text.put_byte(high);
+    text.put_byte(low);
 }
 
 // Puts two digits for each byte of the width.
-fn put_bytes(text: &mut [u8], at: usize, width: u32, value: u32) -> usize
-    ensures { line_at text.new result ≡ puts (bytes_text width value) (line_at text.old at) }
+fn put_bytes(text: &mut Writer, width: u32, value: u32)
+    ensures { text.new ≡ writes (bytes_text width value) text.old }
 {
     match width {
-        1 => digits::put_byte(text, at, (value % 256) as u8),
-        2 => put_pair(text, at, value),
-        _ => digits::put_hex(text, at, value),
+        1 => text.put_byte((value % 256) as u8),
+        2 => put_pair(text, value),
+        _ => text.put_hex(value),
     }
 }
 
 // Puts width and port, each after a space.
-fn put_access(text: &mut [u8], at: usize, r: Record) -> usize
+#[tactic(auto, using(digits::proofs::Writes::writes_twice))]
+fn put_access(text: &mut Writer, r: Record)
     requires { r.width ≤ 4 }
-    ensures { line_at text.new result ≡ puts (access_text r) (line_at text.old at) }
+    ensures { text.new ≡ writes (access_text r) text.old }
 {
-    let a = digits::put(text, at, b' ');
-    let width = b'0' + r.width as u8;
-    let b = digits::put(text, a, width);
-    let c = digits::put(text, b, b' ');
-    let d = put_pair(text, c, r.port);
-    digits::put(text, d, b'h')
+    text.put(b' ');
+    text.put(b'0' + r.width as u8);
+    text.put(b' ');
+    put_pair(text, r.port);
+    text.put(b'h');
 }
 
 // Puts width, port and value, each after a space.
-fn put_access_value(text: &mut [u8], at: usize, r: Record) -> usize
+#[tactic(auto, using(digits::proofs::Writes::writes_twice))]
+fn put_access_value(text: &mut Writer, r: Record)
     requires { r.width ≤ 4 }
-    ensures { line_at text.new result ≡ puts (access_value_text r) (line_at text.old at) }
+    ensures { text.new ≡ writes (access_value_text r) text.old }
 {
-    let a = put_access(text, at, r);
-    let b = digits::put(text, a, b' ');
-    let c = put_bytes(text, b, r.width, r.value);
-    digits::put(text, c, b'h')
+    put_access(text, r);
+    text.put(b' ');
+    put_bytes(text, r.width, r.value);
+    text.put(b'h');
 }
 
 // Puts the count after a space.
-fn put_count(text: &mut [u8], at: usize, r: Record) -> usize
-    ensures { line_at text.new result ≡ puts (count_text r) (line_at text.old at) }
+#[tactic(auto, using(digits::proofs::Writes::writes_twice))]
+fn put_count(text: &mut Writer, r: Record)
+    ensures { text.new ≡ writes (count_text r) text.old }
 {
-    let a = digits::put(text, at, b' ');
-    digits::put_decimal(text, a, r.value)
+    text.put(b' ');
+    text.put_decimal(r.value);
 }
 
-#[tactic(auto, using(crate::proofs::Pieces::end_put))]
-fn put_statement(text: &mut [u8], at: usize, r: Record) -> usize
-    requires { shape_fault r ≡ 0 }
-    ensures { line_at text.new result ≡ puts (statement_text r) (line_at text.old at) }
+#[tactic(auto, unfolding(crate::specs::Listing::statement_text), using(digits::proofs::Writes::writes_twice, crate::proofs::Records::write_width, crate::proofs::Records::read_width, crate::proofs::Records::if_width))]
+fn put_statement(text: &mut Writer, s: ShapedRecord)
+    ensures { text.new ≡ writes (statement_text s.fields) text.old }
 {
-    let kind = r.kind;
-    match kind {
-        script::WRITE => {
-            let a = digits::put_text(text, at, b"write");
-            put_access_value(text, a, r)
+    let r = s.fields;
+    match s.kind {
+        RecordKind::Write => {
+            text.put_text(b"write");
+            put_access_value(text, r);
         }
-        script::READ => {
-            let a = digits::put_text(text, at, b"read");
-            put_access(text, a, r)
+        RecordKind::Read => {
+            text.put_text(b"read");
+            put_access(text, r);
         }
-        script::DELAY => {
-            let a = digits::put_text(text, at, b"delay");
-            put_count(text, a, r)
+        RecordKind::Delay => {
+            text.put_text(b"delay");
+            put_count(text, r);
         }
-        script::REPEAT => {
-            let a = digits::put_text(text, at, b"repeat");
-            put_count(text, a, r)
+        RecordKind::Repeat => {
+            text.put_text(b"repeat");
+            put_count(text, r);
         }
-        script::IF => {
-            let a = digits::put_text(text, at, b"if");
-            put_access_value(text, a, r)
+        RecordKind::If => {
+            text.put_text(b"if");
+            put_access_value(text, r);
         }
-        script::ELSE => digits::put_text(text, at, b"else"),
-        _ => digits::put_text(text, at, b"end"),
+        RecordKind::Else => text.put_text(b"else"),
+        RecordKind::End => text.put_text(b"end"),
     }
 }
 
@@ -194,19 +182,13 @@ fn decimal_length(n: u32) -> usize
     requires { n ≤ 65535 }
     ensures { result ≡ length (decimal_text n) }
 {
-    if n < 10 {
-        return 1;
+    match n {
+        0..=9 => 1,
+        10..=99 => 2,
+        100..=999 => 3,
+        1000..=9999 => 4,
+        _ => 5,
     }
-    if n < 100 {
-        return 2;
-    }
-    if n < 1000 {
-        return 3;
-    }
-    if n < 10000 {
-        return 4;
-    }
-    5
 }
 
 // Two digits for each byte of the width.
@@ -220,105 +202,93 @@ fn bytes_length(width: u32) -> usize
     }
 }
 
-#[tactic(auto, using(crate::proofs::Lengths::end_long))]
-fn statement_length(r: Record) -> usize
-    requires { shape_fault r ≡ 0 }
-    ensures { result ≡ length (statement_text r) }
+#[tactic(auto, unfolding(crate::specs::Listing::statement_text), using(crate::proofs::Lengths::value_long, crate::proofs::Records::delay_count, crate::proofs::Records::repeat_count))]
+fn statement_length(s: ShapedRecord) -> usize
+    ensures { result ≡ length (statement_text s.fields) }
 {
-    let kind = r.kind;
-    match kind {
-        script::WRITE => 15 + bytes_length(r.width),
-        script::READ => 12,
-        script::DELAY => 6 + decimal_length(r.value),
-        script::REPEAT => 7 + decimal_length(r.value),
-        script::IF => 12 + bytes_length(r.width),
-        script::ELSE => 4,
-        _ => 3,
+    let r = s.fields;
+    match s.kind {
+        RecordKind::Write => 15 + bytes_length(r.width),
+        RecordKind::Read => 12,
+        RecordKind::Delay => 6 + decimal_length(r.value),
+        RecordKind::Repeat => 7 + decimal_length(r.value),
+        RecordKind::If => 12 + bytes_length(r.width),
+        RecordKind::Else => 4,
+        RecordKind::End => 3,
     }
+}
+
+// The length of the line of a record, with its line feed.
+#[tactic(auto, using(crate::proofs::Lengths::line_long, crate::proofs::Lengths::margin_most, crate::proofs::Lengths::statement_most))]
+fn line_length(depth: usize, s: ShapedRecord) -> usize
+    ensures { result ≡ length (line_text depth s.fields) + 1 }
+{
+    margin_length(depth, s.kind) + statement_length(s) + 1
 }
 
 // ---- the listing
 
-fn refusal_at(refusal: u32, place: usize) -> ListResult
-    requires { place ≤ most_records }
-    ensures { result ≡ refused_at refusal place }
-{
-    ListResult {
-        refusal,
-        place: place as u32,
-        length: 0,
-    }
-}
-
 // Refusals 1 to 4, or the length of the listing.
-fn measure(script: &[u8]) -> ListResult
-    ensures { result ≡ measured script.now }
+fn measure(script: &[u8]) -> Result<usize, Refused>
+    ensures { listed result ≡ measured script.now }
 {
     if script::bad_length(script) {
-        return refusal_at(outcome::BAD_LENGTH, 0);
+        return Err(Refused {
+            kind: RefusalKind::BadLength,
+            place: 0,
+        });
     }
-    let count = script.len() / Record::SIZE;
-    let mut depth: usize = 0;
-    let mut length: usize = 0;
-    let mut k: usize = 0;
-    while k < count {
+    let mut depth = 0;
+    let mut length = 0;
+    // By place, as `records_from` reads the records, and a refusal names the place.
+    for k in 0..script.len() / Record::SIZE {
         let r = record::read(script, Record::SIZE * k);
-        let kind = r.kind;
-        let fault = script::shape_fault(r);
-        if fault != 0 {
-            return refusal_at(fault, k);
-        }
-        length = length + margin_length(depth, kind) + statement_length(r) + 1;
-        depth = depth_after(depth, kind);
-        k = k + 1;
+        let place = k as u32;
+        let s = ShapedRecord::new(r).map_err(|kind| Refused { kind, place })?;
+        length += line_length(depth, s);
+        depth = depth_after(depth, s.kind);
     }
-    ListResult {
-        refusal: 0,
-        place: 0,
-        length,
-    }
+    Ok(length)
 }
 
 // Puts the line of a record, with its line feed.
-fn put_line(text: &mut [u8], at: usize, depth: usize, r: Record) -> usize
-    requires { shape_fault r ≡ 0 }
-    ensures { line_at text.new result ≡ puts (line_text depth r ++ (0x0A ∷ [])) (line_at text.old at) }
+#[tactic(auto, unfolding(crate::specs::Listing::line_text), using(digits::proofs::Writes::writes_twice))]
+fn put_line(text: &mut Writer, depth: usize, s: ShapedRecord)
+    ensures { text.new ≡ writes (line_text depth s.fields ++ (0x0A ∷ [])) text.old }
 {
-    let spaces = margin_length(depth, r.kind);
-    let a = put_spaces(text, at, spaces);
-    let b = put_statement(text, a, r);
-    digits::put(text, b, b'\n')
+    put_spaces(text, margin_length(depth, s.kind));
+    put_statement(text, s);
+    text.put(b'\n');
 }
 
 // Puts the listing of a script that has none of the refusals 1 to 4.
-fn put_listing(script: &[u8], text: &mut [u8])
-    requires { ((script_fault script.now).number ≡ 0) × (length (listing script.now) ≤ length text.old) }
-    ensures { text.new ≡ with_text (listing script.now) text.old }
+#[tactic(auto, using(crate::proofs::Lines::right_record, crate::proofs::Lines::put_all))]
+fn put_listing(script: &[u8], text: &mut Writer)
+    requires { (script_fault script.now).number ≡ 0 }
+    ensures { text.new ≡ writes (listing script.now) text.old }
 {
-    let count = script.len() / Record::SIZE;
-    let mut depth: usize = 0;
-    let mut at: usize = 0;
-    let mut k: usize = 0;
-    while k < count {
+    let mut depth = 0;
+    // By place, as in `measure`.
+    for k in 0..script.len() / Record::SIZE {
         let r = record::read(script, Record::SIZE * k);
-        let kind = r.kind;
-        at = put_line(text, at, depth, r);
-        depth = depth_after(depth, kind);
-        k = k + 1;
+        let s = ShapedRecord::new(r).unwrap();
+        put_line(text, depth, s);
+        depth = depth_after(depth, s.kind);
     }
 }
 
-// Lists a script. The length is found first: nothing may be written unless the whole listing fits.
-pub fn list(script: &[u8], text: &mut [u8]) -> ListResult
-    ensures { (result ≡ list_result script.now text.old) × (text.new ≡ text_after script.now text.old) }
+// Lists a script and returns the length of the listing. The length is found first: nothing may be written unless the whole listing fits.
+pub fn list(script: &[u8], text: &mut [u8]) -> Result<usize, Refused>
+    ensures { (listed result ≡ list_result script.now text.old) × (text.new ≡ text_after script.now text.old) }
 {
-    let found = measure(script);
-    if found.refusal != 0 {
-        return found;
+    let length = measure(script)?;
+    if text.len() < length {
+        return Err(Refused {
+            kind: RefusalKind::TextTooShort,
+            place: 0,
+        });
     }
-    if text.len() < found.length {
-        return refusal_at(outcome::TEXT_TOO_SHORT, 0);
-    }
-    put_listing(script, text);
-    found
+    let mut writer = Writer::new(text);
+    put_listing(script, &mut writer);
+    Ok(length)
 }

@@ -1,6 +1,5 @@
 pub mod All
 pub mod Slice
-pub mod Paste
 pub mod Replicate
 pub mod Stack
 pub mod Stores

@@ -1,1 +1,2 @@
 pub mod ReadBack
+pub mod Std

@@ -1,7 +1,11 @@
 -- Laws of `&&`, `||` and `all_below`: the whole follows from the parts, and the parts follow from the whole.
 use Prim.Native.Nat.{ℕ, zero, suc, ◌+◌, ◌<◌}
-use mathlib.Core.Path.{◌≡◌, refl}
-use mathlib.Core.Bool.{Bool, true, false, ◌&&◌, ◌||◌, and-false, false≢true, true≢false}
+use mathlib.Core.Path.{◌≡◌, refl, sym, ap, ◌∙◌}
+use mathlib.Core.Bool.{Bool, true, false, ◌&&◌, ◌||◌, and_assoc, and-false, and-true, false≢true, true≢false}
+use mathlib.Core.List.{List, [], ◌∷◌}
+use lib.ListN.{get_or, length}
+use Rattle.std.specs.Prelude.{fold, zip}
+use Rattle.std.proofs.lemmas.Slice.Zip.{get_or-zip, length-zip}
 use native.Mathlib.Omega.{arith}
 use native.Mathlib.Decide.{dec_lt}
 use native.Mathlib.Numerals.{add-one}
@@ -31,11 +35,39 @@ all_true zero p h = refl
 all_true (suc n) p h = and_both (all_below n p) (p n) (all_true n p (λ k l. h k (omega arith))) (h n (omega arith))
 
 -- one more number
-pub all_next : (n : ℕ) (p : ℕ → Bool) → (all_below n p && p n) ≡ all_below (n + 1) p
-all_next n p = rw add-one
-
 pub all_more : (n : ℕ) (p : ℕ → Bool) → all_below n p ≡ true → p n ≡ true → all_below (n + 1) p ≡ true
 all_more n p h k = rw add-one (and_both (all_below n p) (p n) h k)
+
+-- a test of every element of a list, as a fold
+all_front : (n : ℕ) (p : ℕ → Bool) → all_below (suc n) p ≡ (p 0 && all_below n (λ k. p (suc k)))
+all_front zero p = sym (and-true (p 0))
+all_front (suc n) p = rw (all_front n p) (and_assoc (p 0) (all_below n (λ k. p (suc k))) (p (suc n)))
+
+fold_from : {A : Type 0} (z : A) (p : A → Bool) (b : Bool) (xs : List A)
+    → fold (λ all x. all && p x) b xs ≡ (b && all_below (length xs) (λ k. p (get_or xs k z)))
+fold_from z p b [] = sym (and-true b)
+fold_from z p b (x ∷ xs) =
+    let rest = λ (k : ℕ). p (get_or xs k z) in
+    fold_from z p (b && p x) xs ∙ and_assoc b (p x) (all_below (length xs) rest)
+    ∙ ap (λ (c : Bool). b && c) (sym (all_front (length xs) (λ k. p (get_or (x ∷ xs) k z))))
+
+pub all_folded : {A : Type 0} (z : A) (p : A → Bool) (xs : List A) (n : ℕ) → length xs ≡ n
+    → fold (λ all x. all && p x) true xs ≡ all_below n (λ k. p (get_or xs k z))
+all_folded z p xs n e = rw (← e) (fold_from z p true xs)
+
+-- two tests that agree below n
+all_same : (n : ℕ) (p q : ℕ → Bool) → ((k : ℕ) → k < n → p k ≡ q k) → all_below n p ≡ all_below n q
+all_same zero p q h = refl
+all_same (suc n) p q h = rw (all_same n p q (λ k l. h k (omega arith)), h n (omega arith))
+
+-- a test of the pairs of two lists of the same length, as a fold
+pub all_zipped :
+    (p : ℕ × ℕ → Bool) (xs ys : List ℕ) (n : ℕ) → length xs ≡ n → length ys ≡ n
+    → fold (λ all x. all && p x) true (zip xs ys) ≡ all_below n (λ k. p (get_or xs k 0, get_or ys k 0))
+all_zipped p xs ys n l m =
+    all_folded (0, 0) p (zip xs ys) n (rw (length-zip xs ys) (omega arith))
+    ∙ all_same n (λ k. p (get_or (zip xs ys) k (0, 0))) (λ k. p (get_or xs k 0, get_or ys k 0))
+    (λ k h. ap p (get_or-zip xs ys k (0, 0) (omega arith) (omega arith)))
 
 -- one number for which the test fails
 pub all_false : (n : ℕ) (p : ℕ → Bool) (k : ℕ) → k < n → p k ≡ false → all_below n p ≡ false

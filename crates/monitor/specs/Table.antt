@@ -1,6 +1,8 @@
 -- The table of the monitor registers, and the lists of indices that follow from it. See docs/CHIP.md, "Monitor".
 use Rattle.std.specs.Prelude.{ℕ, zero, suc, ◌-◌, Bool, true, not, cond, ◌&&◌, List, [], ◌∷◌, ◌++◌, leb, eqb, get_or, length}
 use Rattle.mask.specs.Every.{all_below}
+use Rattle.monitor.specs.declared.tables.RegisterKind.{RegisterKind}
+use Rattle.monitor.specs.declared.tables.RegisterKind.TheVariants.{Absent, ReadOnly, Lock, Lockable, Unlocked, Clearable}
 
 -- a row of the table: first and last index, kind, reset value, mask
 pub record Row : Type 0 where
@@ -29,6 +31,15 @@ never_locked = 4
 
 abbrev pub write1_clears : ℕ
 write1_clears = 5
+
+-- the kinds of the code, by these numbers
+abbrev pub kind_number : RegisterKind → ℕ
+kind_number Absent = absent
+kind_number ReadOnly = read_only
+kind_number Lock = lock
+kind_number Lockable = lockable
+kind_number Unlocked = never_locked
+kind_number Clearable = write1_clears
 
 abbrev row : ℕ → ℕ → ℕ → ℕ → ℕ → Row
 row f l k r m = record { first = f; last = l; kind = k; reset = r; mask = m }

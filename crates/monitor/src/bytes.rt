@@ -43,6 +43,7 @@ impl Monitor {
         ]
     }
 
+    // A slice, not an array, here and in `is_saved`: `state` cuts it out of a slice, and a cut is a slice.
     pub fn from_bytes(bytes: &[u8]) -> Self
         requires { length bytes.now ≡ monitor_size }
         ensures { result ≡ monitor_from bytes.now }
@@ -66,12 +67,6 @@ impl Monitor {
         ensures { result ≡ monitor_saved bytes.now }
     {
         let resets = Monitor::READ_ONLY_RESET;
-        (bytes[2] == resets[0])
-            & (bytes[3] == resets[1])
-            & (bytes[10] == resets[2])
-            & (bytes[11] == resets[3])
-            & (bytes[12] == resets[4])
-            & (bytes[13] == resets[5])
-            & (bytes[14] == resets[6])
+        bytes[2..4] == resets[..2] && bytes[10..15] == resets[2..]
     }
 }

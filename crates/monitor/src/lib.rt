@@ -3,11 +3,11 @@
 #![tactic(auto)]
 
 mod bytes;
-mod tables;
+pub mod tables;
 
-ghost use Rattle.std.specs.Prelude.{◌≡◌, ◌<◌};
-ghost use Rattle.access.specs.Block.{with_block};
-ghost use Rattle.access.specs.Status.{done, status_only};
+ghost use Rattle.std.specs.Prelude.{◌≡◌, ◌<◌, ◌&&◌, true, fold, zip};
+ghost use Rattle.access.specs.Block.{reply_of};
+ghost use Rattle.mask.specs.Mask.{within};
 ghost use Rattle.monitor.specs.Monitor.{
   fresh_monitor,
   monitor_reset,
@@ -24,9 +24,10 @@ ghost use Rattle.monitor.specs.Monitor.{
   monitor_event,
   interrupt,
 };
-ghost use Rattle.monitor.specs.Table.{kind_of, mask_of, reset_of, slot_of};
+ghost use Rattle.monitor.specs.Table.{kind_number, kind_of, mask_of, reset_of, slot_of};
 
-use access::{Access, Answer};
+use access::{Access, Reply, Status};
+use tables::RegisterKind;
 
 // Only registers that can change are stored: 40h, 7Ch, 7Eh, 80h to 83h, 90h, 91h and B5h to B7h, in this order.
 #[derive(Clone, Copy)]
@@ -35,50 +36,7 @@ pub struct Monitor {
     pub registers: [u8; 12],
 }
 
-#[derive(Clone, Copy)]
-pub struct AccessResult {
-    pub block: Monitor,
-    pub answer: Answer,
-}
-
-impl AccessResult {
-    fn status(status: u32, block: Monitor) -> Self
-        ensures { with_block result.answer result.block ≡ with_block (status_only status) block }
-    {
-        AccessResult {
-            answer: Answer { status, value: 0 },
-            block,
-        }
-    }
-
-    fn read(value: u8, block: Monitor) -> Self
-        ensures { with_block result.answer result.block ≡ with_block (done value) block }
-    {
-        AccessResult {
-            answer: Answer {
-                status: Answer::DONE,
-                value: value as u32,
-            },
-            block,
-        }
-    }
-}
-
 impl Monitor {
-    // Kinds of registers. LOCK is 40h itself. LOCKABLE is read/write and locked by Lock, NEVER_LOCKED is read/write
-    // and not locked.
-    pub const ABSENT: u8 = 0;
-
-    pub const READ_ONLY: u8 = 1;
-
-    pub const LOCK: u8 = 2;
-
-    pub const LOCKABLE: u8 = 3;
-
-    pub const NEVER_LOCKED: u8 = 4;
-
-    pub const WRITE_1_CLEARS: u8 = 5;
-
     // Bits: Lock in 40h, INTEN in 7Ch, the enables in 7Eh, the voltage status in 83h.
     pub const LOCK_BIT: u8 = 0x02;
 
@@ -118,7 +76,7 @@ impl Monitor {
         }
     }
 
-    // Reset 0 (PCI) keeps the monitor. The other resets reset all of it.
+    // Reset 0 (PCI) keeps the monitor. The other resets reset all of it. The level is a number, since `monitor_reset` says what any number does.
     pub fn reset(self, level: u32) -> Self
         ensures { result ≡ monitor_reset self level }
     {
@@ -129,24 +87,18 @@ impl Monitor {
     }
 
     // Is every stored register within its mask?
-    // No early return: the compiler then tests all registers at once.
     pub fn in_range(self) -> bool
         ensures { result ≡ monitor_in_range self }
     {
-        let registers = self.registers;
-        let masks = Monitor::STORED_MASK;
-        let mut within = true;
-        for k in 0..12 {
-            within = within & mask::within8(masks[k], registers[k]);
-        }
-        within
+        all_within(&self.registers, &Monitor::STORED_MASK)
     }
 
-    pub fn access(self, offset: u32, access: Access) -> AccessResult
-        ensures { with_block result.answer result.block ≡ monitor_access self offset access }
+    #[tactic(auto, unfolding(crate::specs::Monitor::monitor_access))]
+    pub fn access(self, offset: u32, access: Access) -> Reply<Monitor>
+        ensures { reply_of result ≡ monitor_access self offset access }
     {
         if !access::takes_byte(access.width) {
-            return AccessResult::status(Answer::UNCLAIMED, self);
+            return Reply::status(Status::Unclaimed, self);
         }
         match offset {
             Monitor::INDEX_PORT => self.index_access(access),
@@ -154,18 +106,18 @@ impl Monitor {
         }
     }
 
-    fn index_access(mut self, access: Access) -> AccessResult
-        ensures { with_block result.answer result.block ≡ index_access self access }
+    fn index_access(mut self, access: Access) -> Reply<Monitor>
+        ensures { reply_of result ≡ index_access self access }
     {
         if access.write {
             self.index = (access.value % 256) as u8;
-            return AccessResult::status(Answer::DONE, self);
+            return Reply::status(Status::Done, self);
         }
-        AccessResult::read(self.index, self)
+        Reply::done(u32::from(self.index), self)
     }
 
-    fn data_access(self, access: Access) -> AccessResult
-        ensures { with_block result.answer result.block ≡ data_access self access }
+    fn data_access(self, access: Access) -> Reply<Monitor>
+        ensures { reply_of result ≡ data_access self access }
     {
         if access.write {
             return self.data_write((access.value % 256) as u8);
@@ -174,38 +126,39 @@ impl Monitor {
     }
 
     // A read-only register always has its reset value.
-    fn data_read(self) -> AccessResult
-        ensures { with_block result.answer result.block ≡ data_read self }
+    #[tactic(auto, using(crate::proofs::Table::slot_below), unfolding(crate::specs::Monitor::data_read))]
+    fn data_read(self) -> Reply<Monitor>
+        ensures { reply_of result ≡ data_read self }
     {
         let index = self.index;
         match Monitor::kind_of(index) {
-            Monitor::ABSENT => AccessResult::status(Answer::ABSENT, self),
-            Monitor::READ_ONLY => AccessResult::read(Monitor::reset_of(index), self),
-            _ => AccessResult::read(self.register(index), self),
+            RegisterKind::Absent => Reply::status(Status::Absent, self),
+            RegisterKind::ReadOnly => Reply::done(u32::from(Monitor::reset_of(index)), self),
+            _ => Reply::done(u32::from(self.register(index)), self),
         }
     }
 
     #[tactic(auto, using(crate::proofs::Table::slot_below), unfolding(crate::specs::Monitor::write_as))]
-    fn data_write(self, value: u8) -> AccessResult
-        ensures { with_block result.answer result.block ≡ data_write self value }
+    fn data_write(self, value: u8) -> Reply<Monitor>
+        ensures { reply_of result ≡ data_write self value }
     {
         let index = self.index;
         match Monitor::kind_of(index) {
-            Monitor::LOCK => self.lockable_write(
+            RegisterKind::Lock => self.lockable_write(
                 index,
                 self.register(index) | value & Monitor::mask_of(index),
             ),
-            Monitor::READ_ONLY => AccessResult::status(Answer::BLOCKED, self),
-            Monitor::LOCKABLE => self.lockable_write(index, value & Monitor::mask_of(index)),
-            Monitor::WRITE_1_CLEARS => AccessResult::status(
-                Answer::DONE,
-                self.with_register(index, mask::cleared8(self.register(index), value)),
+            RegisterKind::ReadOnly => Reply::status(Status::Blocked, self),
+            RegisterKind::Lockable => self.lockable_write(index, value & Monitor::mask_of(index)),
+            RegisterKind::Clearable => Reply::status(
+                Status::Done,
+                self.with_register(index, self.register(index) & !value),
             ),
-            Monitor::NEVER_LOCKED => AccessResult::status(
-                Answer::DONE,
+            RegisterKind::Unlocked => Reply::status(
+                Status::Done,
                 self.with_register(index, value & Monitor::mask_of(index)),
             ),
-            _ => AccessResult::status(Answer::ABSENT, self),
+            RegisterKind::Absent => Reply::status(Status::Absent, self),
         }
     }
 
@@ -217,18 +170,19 @@ impl Monitor {
     }
 
     // A write to a register that Lock locks.
-    fn lockable_write(self, index: u8, value: u8) -> AccessResult
+    #[tactic(auto, unfolding(crate::specs::Monitor::lockable_write))]
+    fn lockable_write(self, index: u8, value: u8) -> Reply<Monitor>
         requires { slot_of index < 12 }
-        ensures { with_block result.answer result.block ≡ lockable_write self index value }
+        ensures { reply_of result ≡ lockable_write self index value }
     {
         if self.lock_set() {
-            return AccessResult::status(Answer::BLOCKED, self);
+            return Reply::status(Status::Blocked, self);
         }
-        AccessResult::status(Answer::DONE, self.with_register(index, value))
+        Reply::status(Status::Done, self.with_register(index, value))
     }
 
-    fn kind_of(index: u8) -> u8
-        ensures { result ≡ kind_of index }
+    fn kind_of(index: u8) -> RegisterKind
+        ensures { kind_number result ≡ kind_of index }
     {
         Monitor::KIND[index as usize]
     }
@@ -245,7 +199,8 @@ impl Monitor {
         Monitor::MASK[index as usize]
     }
 
-    // The place in `registers` of the register at an index; 12 if it is not stored.
+    // The place in `registers` of the register at an index; 12 if it is not stored, as in the definition `slot_of`. Not an Option: `register` and
+    // `with_register` are called only where the kind says that the register is stored (`slot_below`), so nobody looks for the 12.
     fn slot_of(index: u8) -> usize
         ensures { result ≡ slot_of index }
     {
@@ -266,6 +221,7 @@ impl Monitor {
         }
     }
 
+    // The requires is here, in `with_register` and in `lockable_write`: a type for it would need a view of its own for three short functions.
     fn register(self, index: u8) -> u8
         requires { slot_of index < 12 }
         ensures { result ≡ register self index }
@@ -283,14 +239,14 @@ impl Monitor {
         self
     }
 
-    // A sensor event sets bits of 83h and clears none. Other events do not change the monitor.
+    // A sensor event sets bits of 83h and clears none. Other events do not change the monitor. The kind is a number: `EventKind` is in `device`,
+    // which depends on this crate, and `monitor_event` says what any number does.
     pub fn event(mut self, kind: u32, operand: u32) -> Self
         ensures { result ≡ monitor_event self kind operand }
     {
         if kind == Monitor::SENSOR {
             let bits = (operand % 4) as u8;
-            self.registers[Monitor::VOLTAGE_STATUS_SLOT] =
-                self.registers[Monitor::VOLTAGE_STATUS_SLOT] | bits;
+            self.registers[Monitor::VOLTAGE_STATUS_SLOT] |= bits;
         }
         self
     }
@@ -307,4 +263,14 @@ impl Monitor {
             & ((enable & Monitor::VTR_ENABLE != 0) & (status & Monitor::VTR_STATUS != 0)
                 | (enable & Monitor::VBAT_ENABLE != 0) & (status & Monitor::VBAT_STATUS != 0))
     }
+}
+
+// Is each register within its mask? A fold has no early return: the compiler then tests all registers at once.
+fn all_within(registers: &[u8], masks: &[u8]) -> bool
+    ensures { result ≡ fold (λ all pair. all && within pair.1 pair.0) true (zip registers.now masks.now) }
+{
+    registers.iter().zip(masks.iter()).fold(
+        true,
+        |all, (register, mask)| all & (register & mask == *register),
+    )
 }

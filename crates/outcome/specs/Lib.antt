@@ -1,3 +1,4 @@
 pub mod Ending
 pub mod Number
 pub mod Refusal
+pub mod Refused

@@ -1,6 +1,9 @@
 -- A refusal: its number and its place. Number 0 means that nothing was refused. See docs/CHIP.md, "Refusals".
 use Rattle.std.specs.Prelude.{ℕ}
-use Rattle.outcome.specs.declared.Refusal.{Refusal}
+
+pub record Refusal : Type 0 where
+  pub number : ℕ
+  pub place : ℕ
 
 abbrev pub refusal : (number place : ℕ) → Refusal
 refusal n p = record { number = n; place = p }

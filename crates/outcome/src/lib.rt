@@ -1,68 +1,67 @@
-// The numbers of the refusals and of the endings of a run, each named once. See docs/CHIP.md, "Refusals" and "Runs".
-// The crates that refuse a call or end a run use them. There is no code here.
-
-// Number 0 means that nothing was refused.
+// Refusals, and the endings of a run, with their numbers. See docs/CHIP.md, "Refusals" and "Runs".
+// The crates that refuse a call or end a run use them.
 #![tactic(auto)]
 
-#[derive(Clone, Copy)]
-pub struct Refusal {
-    pub number: u32,
+ghost use Rattle.std.specs.Prelude.{◌≡◌};
+ghost use Rattle.outcome.specs.Refused.{ending_number, refusal_number};
+
+// Why a call is refused.
+#[derive(Clone, Copy, Debug, PartialEq, Eq, Hash)]
+pub enum RefusalKind {
+    // ---- Refusals by the compiler.
+    BadLength = 1,
+    WrongMark = 2,
+    BadKind = 3,
+    // Also a single access with a wrong width, a port above FFFFh, or a written value that does not fit the width.
+    BadField = 4,
+    Misplaced = 5,
+    TooDeep = 6,
+    StillOpen = 7,
+    TooManyWords = 8,
+    BufferTooShort = 9,
+    // ---- Refusals by runs and by single calls.
+    BadImage = 10,
+    BadState = 11,
+    BadEvent = 12,
+    // ---- Refusals by the assembler, which reads text scripts, and by the lister.
+    LineTooLong = 30,
+    NotInGrammar = 31,
+    NumberTooBig = 32,
+    RecordsTooShort = 33,
+    TextTooShort = 34,
+}
+
+impl RefusalKind {
+    pub fn number(self) -> u32
+        ensures { result ≡ refusal_number self }
+    {
+        self as u32
+    }
+}
+
+// A refused call: why, and the place of the fault. The place is a number also where there is none: document 01 says "place 0" then.
+#[derive(Clone, Copy, Debug, PartialEq, Eq, Hash)]
+pub struct Refused {
+    pub kind: RefusalKind,
     pub place: u32,
 }
 
-// ---- Refusals by the compiler.
+// How a run ends: halted, with its budget spent, or at a fault.
+#[derive(Clone, Copy, Debug, PartialEq, Eq, Hash)]
+pub enum Ending {
+    Halted = 0,
+    BudgetSpent = 19,
+    BadWord = 20,
+    BeyondLastWord = 21,
+    NinthCounter = 22,
+    NoCounter = 23,
+    LogFull = 24,
+}
 
-pub const BAD_LENGTH: u32 = 1;
-
-pub const WRONG_MARK: u32 = 2;
-
-pub const BAD_KIND: u32 = 3;
-
-// Also a single access with a wrong width, a port above FFFFh, or a written value that does not fit the width.
-pub const BAD_FIELD: u32 = 4;
-
-pub const MISPLACED: u32 = 5;
-
-pub const TOO_DEEP: u32 = 6;
-
-pub const STILL_OPEN: u32 = 7;
-
-pub const TOO_MANY_WORDS: u32 = 8;
-
-pub const BUFFER_TOO_SHORT: u32 = 9;
-
-// ---- Refusals by runs and by single calls.
-
-pub const BAD_IMAGE: u32 = 10;
-
-pub const BAD_STATE: u32 = 11;
-
-pub const BAD_EVENT: u32 = 12;
-
-// ---- Refusals by the assembler, which reads text scripts, and by the lister.
-
-pub const LINE_TOO_LONG: u32 = 30;
-
-pub const NOT_IN_GRAMMAR: u32 = 31;
-
-pub const NUMBER_TOO_BIG: u32 = 32;
-
-pub const RECORDS_TOO_SHORT: u32 = 33;
-
-pub const TEXT_TOO_SHORT: u32 = 34;
-
-// ---- Endings of a run.
-
-pub const HALTED: u32 = 0;
-
-pub const BUDGET_SPENT: u32 = 19;
-
-pub const BAD_WORD: u32 = 20;
-
-pub const BEYOND_LAST_WORD: u32 = 21;
-
-pub const NINTH_COUNTER: u32 = 22;
-
-pub const NO_COUNTER: u32 = 23;
-
-pub const LOG_FULL: u32 = 24;
+impl Ending {
+    pub fn number(self) -> u32
+        ensures { result ≡ ending_number self }
+    {
+        self as u32
+    }
+}

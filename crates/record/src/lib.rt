@@ -8,8 +8,9 @@ pub mod word_kind;
 ghost use Rattle.std.specs.Prelude.{◌≡◌, ◌+◌, ◌≤◌, length, drop, ◌++◌};
 ghost use Rattle.record.specs.Record.{record_at, record_size, bytes_of};
 
-use little_endian::{byte0, byte1, byte2, byte3, four_at, two_at};
+use little_endian::{four_at, two_at};
 
+// `mark` and `kind` are numbers, since a script or an image may hold any bytes there: `record_at` reads all of them, and later checks refuse.
 #[derive(Clone, Copy)]
 pub struct Record {
     pub mark: u32,
@@ -34,50 +35,44 @@ impl Record {
     pub const WORD_MARK: u32 = 0x3CC3;
 }
 
-// The kind of the record that starts at offset `at`.
+// The kind of the record that starts at offset `at`. An offset, not a slice that starts there: `record_at` and its laws take the whole bytes.
+#[tactic(auto, unfolding(crate::specs::Record::record_at))]
 pub fn kind_at(bytes: &[u8], at: usize) -> u32
     requires { at + record_size ≤ length bytes.now }
     ensures { result ≡ (record_at bytes.now at).kind }
 {
-    bytes[at + 2] as u32
+    u32::from(bytes[at + 2])
 }
 
 // The record that starts at offset `at`.
+#[tactic(auto, unfolding(crate::specs::Record::record_at))]
 pub fn read(bytes: &[u8], at: usize) -> Record
     requires { at + record_size ≤ length bytes.now }
     ensures { result ≡ record_at bytes.now at }
 {
-    let mark = two_at(bytes, at) as u32;
-    let kind = kind_at(bytes, at);
-    let width = bytes[at + 3] as u32;
-    let port = two_at(bytes, at + 4) as u32;
-    let target = two_at(bytes, at + 6) as u32;
-    let value = four_at(bytes, at + 8);
     Record {
-        mark,
-        kind,
-        width,
-        port,
-        target,
-        value,
+        mark: u32::from(two_at(bytes, at)),
+        kind: kind_at(bytes, at),
+        width: u32::from(bytes[at + 3]),
+        port: u32::from(two_at(bytes, at + 4)),
+        target: u32::from(two_at(bytes, at + 6)),
+        value: four_at(bytes, at + 8),
     }
 }
 
 // Writes the record to the first 12 bytes of `part`. The other bytes are unchanged.
+#[tactic(auto, unfolding(crate::specs::Record::bytes_of))]
 pub fn write(part: &mut [u8], word: Record)
     requires { record_size ≤ length part.old }
     ensures { part.new ≡ bytes_of word ++ drop record_size part.old }
 {
-    part[0] = byte0(word.mark);
-    part[1] = byte1(word.mark);
-    part[2] = byte0(word.kind);
-    part[3] = byte0(word.width);
-    part[4] = byte0(word.port);
-    part[5] = byte1(word.port);
-    part[6] = byte0(word.target);
-    part[7] = byte1(word.target);
-    part[8] = byte0(word.value);
-    part[9] = byte1(word.value);
-    part[10] = byte2(word.value);
-    part[11] = byte3(word.value);
+    let [mark0, mark1, _, _] = word.mark.to_le_bytes();
+    let [kind, _, _, _] = word.kind.to_le_bytes();
+    let [width, _, _, _] = word.width.to_le_bytes();
+    let [port0, port1, _, _] = word.port.to_le_bytes();
+    let [target0, target1, _, _] = word.target.to_le_bytes();
+    let [value0, value1, value2, value3] = word.value.to_le_bytes();
+    part[..Record::SIZE].copy_from_slice(&[
+        mark0, mark1, kind, width, port0, port1, target0, target1, value0, value1, value2, value3,
+    ]);
 }

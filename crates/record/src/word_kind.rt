@@ -1,16 +1,48 @@
-// The kinds of words in an image. `compiler` writes them, `step` and `sequencer` read them. See docs/CHIP.md, "Words".
-pub const WRITE: u32 = 1;
+// The kinds of words in an image, and their numbers. `compiler` writes them, `step`, `sequencer` and `interpreter` read them.
+// See docs/CHIP.md, "Words".
+ghost use Rattle.std.specs.Prelude.{◌≡◌};
+ghost use Rattle.record.specs.WordKinds.{NumberedWordKind, word_kind_number};
 
-pub const READ: u32 = 2;
+#[derive(Clone, Copy, Debug, PartialEq, Eq, Hash)]
+pub enum WordKind {
+    Write = 1,
+    Read = 2,
+    Delay = 3,
+    Enter = 4,
+    LoopEnd = 5,
+    Test = 6,
+    Jump = 7,
+    Halt = 8,
+}
 
-pub const DELAY: u32 = 3;
+// A number that no kind has. Each crate with kinds has its own such type, as the error of its `try_from`.
+#[derive(Clone, Copy, Debug, PartialEq, Eq, Hash)]
+pub struct UnknownKind(pub u32);
 
-pub const ENTER: u32 = 4;
+impl WordKind {
+    pub fn number(self) -> u32
+        ensures { result ≡ word_kind_number self }
+    {
+        self as u32
+    }
+}
 
-pub const LOOP_END: u32 = 5;
+impl TryFrom<u32> for WordKind {
+    type Error = UnknownKind;
 
-pub const TEST: u32 = 6;
+    ghost try_from_gives = { NumberedWordKind };
 
-pub const JUMP: u32 = 7;
-
-pub const HALT: u32 = 8;
+    fn try_from(number: u32) -> Result<Self, UnknownKind> {
+        match number {
+            1 => Ok(WordKind::Write),
+            2 => Ok(WordKind::Read),
+            3 => Ok(WordKind::Delay),
+            4 => Ok(WordKind::Enter),
+            5 => Ok(WordKind::LoopEnd),
+            6 => Ok(WordKind::Test),
+            7 => Ok(WordKind::Jump),
+            8 => Ok(WordKind::Halt),
+            _ => Err(UnknownKind(number)),
+        }
+    }
+}

@@ -1,215 +1,85 @@
-// Reads one command, performs it on the session and prints the answer. A line that is not a command changes nothing.
-// See docs/CASES.md, "Commands".
-use crate::session::Session;
-use crate::{answer, runs, scripts};
+// The commands, and how one is read from a line. See docs/CASES.md, "Commands".
+use crate::string::ByteString;
+use crate::words::Words;
 use access::Access;
-use device::Device;
-use state::LoadResult;
-use std::io;
+use step::Sequencer;
 
-fn access(rt: &impl Print, device: Device, access: Access) -> io::Result<Device> {
-    let r = device.single_access(access);
-    let next = r.device;
-    let reply = r.reply;
-    if reply.refusal == 0 {
-        answer::access_done(rt, reply)?;
-    } else {
-        answer::refused(rt, reply.refusal, reply.place)?;
-    }
-    Ok(next)
+#[derive(Clone, Copy)]
+pub enum Command<'a> {
+    // R, W
+    Access(Access),
+    // E
+    Event(u32),
+    // O
+    Outputs,
+    // S
+    State,
+    // L
+    Load(ByteString<'a>),
+    // F
+    Fresh,
+    // C
+    Compile(Filling<'a>),
+    // A
+    Assemble(Filling<'a>),
+    // D
+    List(Filling<'a>),
+    // Q
+    SetSequencer(Sequencer),
+    // P
+    Sequencer,
+    // G
+    LoadSequencer(ByteString<'a>),
+    // X
+    Run(RunRequest<'a>),
+    // T
+    CompileAndRun(RunRequest<'a>),
+    // N
+    Interpret(RunRequest<'a>),
 }
 
-fn unread(rt: &impl Print, device: Device) -> io::Result<Device> {
-    answer::unread(rt)?;
-    Ok(device)
+// What a command that fills a buffer takes: the length of the buffer, and a script or a text.
+#[derive(Clone, Copy)]
+pub struct Filling<'a> {
+    pub length: usize,
+    pub input: ByteString<'a>,
 }
 
-// R width port
-fn read(rt: &impl Print, device: Device, line: &[u8]) -> io::Result<Device> {
-    let width = digits::next_number(line, 1);
-    let port = digits::next_number(line, width.next);
-    if width.ok && port.ok && digits::at_end(line, port.next) {
-        return access(
-            rt,
-            device,
-            Access {
-                write: false,
-                width: width.value,
-                port: port.value,
-                value: 0,
-            },
-        );
-    }
-    unread(rt, device)
+// What a run takes: the budget, the length of the log, the events, and an image or a script.
+#[derive(Clone, Copy)]
+pub struct RunRequest<'a> {
+    pub budget: u32,
+    pub log: usize,
+    pub events: ByteString<'a>,
+    pub bytes: ByteString<'a>,
 }
 
-// W width port value
-fn write(rt: &impl Print, device: Device, line: &[u8]) -> io::Result<Device> {
-    let width = digits::next_number(line, 1);
-    let port = digits::next_number(line, width.next);
-    let value = digits::next_number(line, port.next);
-    if width.ok && port.ok && value.ok && digits::at_end(line, value.next) {
-        return access(
-            rt,
-            device,
-            Access {
-                write: true,
-                width: width.value,
-                port: port.value,
-                value: value.value,
-            },
-        );
+impl<'a> Command<'a> {
+    pub fn read(line: &'a [u8]) -> Option<Self> {
+        let mut words = Words::of(line);
+        let command = Command::from_words(&mut words)?;
+        words.is_empty().then_some(command)
     }
-    unread(rt, device)
-}
 
-// E number
-fn event(rt: &impl Print, device: Device, line: &[u8]) -> io::Result<Device> {
-    let number = digits::next_number(line, 1);
-    if number.ok && digits::at_end(line, number.next) {
-        let r = device.single_event(number.value);
-        let next = r.device;
-        let reply = r.reply;
-        let outputs = reply.outputs;
-        if reply.refusal == 0 {
-            answer::event_done(rt, outputs)?;
-        } else {
-            answer::refused(rt, reply.refusal, reply.place)?;
-        }
-        return Ok(next);
+    fn from_words(words: &mut Words<'a>) -> Option<Self> {
+        Some(match words.letter()? {
+            b'R' => Command::Access(words.read_access()?),
+            b'W' => Command::Access(words.write_access()?),
+            b'E' => Command::Event(words.number()?),
+            b'O' => Command::Outputs,
+            b'S' => Command::State,
+            b'L' => Command::Load(words.string()?),
+            b'F' => Command::Fresh,
+            b'C' => Command::Compile(words.filling()?),
+            b'A' => Command::Assemble(words.filling()?),
+            b'D' => Command::List(words.filling()?),
+            b'Q' => Command::SetSequencer(words.sequencer()?),
+            b'P' => Command::Sequencer,
+            b'G' => Command::LoadSequencer(words.string()?),
+            b'X' => Command::Run(words.run_request()?),
+            b'T' => Command::CompileAndRun(words.run_request()?),
+            b'N' => Command::Interpret(words.run_request()?),
+            _ => return None,
+        })
     }
-    unread(rt, device)
-}
-
-// Reads the bytes of a saved state. Returns false if the line does not have them.
-fn state_bytes(line: &[u8], bytes: &mut [u8; state::SIZE]) -> bool {
-    for k in 0..state::SIZE {
-        let b = digits::byte(line, 2 + 2 * k);
-        if 256 <= b {
-            return false;
-        }
-        bytes[k] = (b % 256) as u8;
-    }
-    true
-}
-
-// The length of a command `L`: two characters, and two digits for each byte.
-const LOAD_LINE: usize = 2 + 2 * state::SIZE;
-
-fn load_bytes(bytes: &[u8; state::SIZE]) -> LoadResult {
-    state::load(bytes)
-}
-
-// L bytes. After a refusal the device stays as it was.
-fn load(rt: &impl Print, device: Device, line: &[u8]) -> io::Result<Device> {
-    let mut bytes = [0u8; state::SIZE];
-    if !digits::is_space(line, 1) {
-        return unread(rt, device);
-    }
-    if line.len() != LOAD_LINE {
-        return unread(rt, device);
-    }
-    if !state_bytes(line, &mut bytes) {
-        return unread(rt, device);
-    }
-    let loaded = load_bytes(&bytes);
-    let refusal = loaded.refusal();
-    if refusal.number == 0 {
-        answer::loaded(rt)?;
-    } else {
-        answer::refused(rt, refusal.number, refusal.place)?;
-    }
-    Ok(loaded.device_or(device))
-}
-
-// F
-fn fresh(rt: &impl Print) -> io::Result<Device> {
-    answer::fresh(rt)?;
-    Ok(Device::fresh())
-}
-
-// O
-fn outputs(rt: &impl Print, device: Device) -> io::Result<Device> {
-    let outputs = device.outputs();
-    answer::outputs(rt, outputs)?;
-    Ok(device)
-}
-
-// S
-fn show(rt: &impl Print, device: Device) -> io::Result<Device> {
-    answer::state(rt, device)?;
-    Ok(device)
-}
-
-// The first byte of the line, or 0 if the line is empty.
-fn letter(line: &[u8]) -> u8 {
-    if 0 < line.len() {
-        return line[0];
-    }
-    0
-}
-
-fn on_device(rt: &impl Print, device: Device, line: &[u8], kind: u8) -> io::Result<Device> {
-    if kind == b'R' {
-        return read(rt, device, line);
-    }
-    if kind == b'W' {
-        return write(rt, device, line);
-    }
-    if kind == b'E' {
-        return event(rt, device, line);
-    }
-    if kind == b'L' {
-        return load(rt, device, line);
-    }
-    if !digits::at_end(line, 1) {
-        return unread(rt, device);
-    }
-    if kind == b'S' {
-        return show(rt, device);
-    }
-    if kind == b'O' {
-        return outputs(rt, device);
-    }
-    if kind == b'F' {
-        return fresh(rt);
-    }
-    unread(rt, device)
-}
-
-pub fn run(rt: &impl Print, session: Session, line: &[u8]) -> io::Result<Session> {
-    let kind = letter(line);
-    if kind == scripts::COMPILE {
-        scripts::run(rt, kind, line)?;
-        return Ok(session);
-    }
-    if kind == scripts::ASSEMBLE {
-        scripts::run(rt, kind, line)?;
-        return Ok(session);
-    }
-    if kind == scripts::LIST {
-        scripts::run(rt, kind, line)?;
-        return Ok(session);
-    }
-    if kind == b'Q' {
-        return runs::set_sequencer(rt, session, line);
-    }
-    if kind == b'P' {
-        return runs::show_sequencer(rt, session, line);
-    }
-    if kind == b'G' {
-        return runs::load_sequencer(rt, session, line);
-    }
-    if kind == runs::RUN {
-        return runs::run(rt, session, line, kind);
-    }
-    if kind == runs::COMPILE_AND_RUN {
-        return runs::run(rt, session, line, kind);
-    }
-    if kind == runs::INTERPRET {
-        return runs::run(rt, session, line, kind);
-    }
-    let device = session.device;
-    let next = on_device(rt, device, line, kind)?;
-    Ok(session.with_device(next))
 }

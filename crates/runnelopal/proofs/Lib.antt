@@ -1,3 +1,4 @@
+pub mod Refusals
 pub mod ResumeSaved
 pub mod SavedCalls
 pub mod Valid

@@ -14,7 +14,7 @@ use Rattle.mask.proofs.Every.{and_left, and_right}
 use Rattle.outcome.specs.Refusal.{refusal}
 use Rattle.sequencer.proofs.Endings.{image_run_ends}
 use Rattle.sequencer.specs.Run.{bad_image, is_refusal, log_after, run_answer, run_refusal}
-use Rattle.sequencer.specs.declared.RunResult.{RunResult}
+use Rattle.sequencer.specs.Run.{RunResult}
 use Rattle.sequencer_state.specs.State.{holds_sequencer, saved as sequencer_saved, sequencer_bytes, sequencer_from}
 use Rattle.state.proofs.RoundTrip.{state_length, state_saved}
 use Rattle.state.proofs.Slices.{holds_length, holds_saved}

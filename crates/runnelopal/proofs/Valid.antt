@@ -29,8 +29,7 @@ use Rattle.device.specs.Single.{access_made, access_refused, call_refusal, event
 use Rattle.device.specs.declared.Device.{Device}
 use Rattle.interpreter.specs.Interpret.{interpret_refusal, interpret_result}
 use Rattle.mask.proofs.Branch.{branch}
-use Rattle.outcome.specs.Refusal.{refusal}
-use Rattle.outcome.specs.declared.Refusal.{Refusal}
+use Rattle.outcome.specs.Refusal.{Refusal, refusal}
 use Rattle.script.proofs.Flat.{accepts}
 use Rattle.script.specs.Refusals.{script_refusal}
 use Rattle.sequencer.proofs.Endings.{image_run_ends}

@@ -1,18 +1,17 @@
 -- The answers of the exported functions: structs with the numbers of a result. See bindings/c/runnelopal.h.
 use Rattle.std.specs.Prelude.{ℕ, ◌%◌, cond, replicate}
-use Rattle.assembler.specs.declared.AssembleResult.{AssembleResult}
-use Rattle.compiler.specs.declared.CompileResult.{CompileResult}
+use Rattle.assembler.specs.Assemble.{AssembleResult}
+use Rattle.compiler.specs.Compile.{CompileResult}
 use Rattle.device.specs.Device.{outputs_of}
-use Rattle.device.specs.Single.{no_outputs}
+use Rattle.device.specs.Single.{AccessReply, EventReply, no_outputs}
 use Rattle.device.specs.declared.Device.{Device}
 use Rattle.device.specs.declared.Outputs.{Outputs}
-use Rattle.device.specs.declared.single.AccessReply.{AccessReply}
-use Rattle.device.specs.declared.single.EventReply.{EventReply}
-use Rattle.interpreter.specs.declared.InterpretResult.{InterpretResult}
-use Rattle.lister.specs.declared.ListResult.{ListResult}
-use Rattle.outcome.specs.declared.Refusal.{Refusal}
-use Rattle.sequencer.specs.Run.{is_refusal}
-use Rattle.sequencer.specs.declared.RunResult.{RunResult}
+use Rattle.interpreter.specs.Interpret.{InterpretResult}
+use Rattle.lister.specs.Listing.{ListResult}
+use Rattle.outcome.specs.Refusal.{Refusal}
+use Rattle.outcome.specs.Refused.{ending_number}
+use Rattle.outcome.specs.declared.Ending.{Ending}
+use Rattle.sequencer.specs.Run.{RunResult, is_refusal}
 use Rattle.step.specs.Sequencer.{counter_count}
 use Rattle.step.specs.declared.Sequencer.{Sequencer}
 use Rattle.runnelopal.specs.declared.answer.AccessAnswer.{AccessAnswer}
@@ -60,6 +59,17 @@ exported_interpret r = record {
   taken = r.taken;
   logged = r.logged;
   outputs = levels_unless_refused r.outcome r.device;
+}
+
+-- the answer of a run that ended
+abbrev pub ended : Ending → (steps taken logged : ℕ) → Device → RunAnswer
+ended e steps taken logged d = record {
+  outcome = ending_number e;
+  place = 0;
+  steps = steps;
+  taken = taken;
+  logged = logged;
+  outputs = levels (outputs_of d);
 }
 
 -- "A refusal's other numbers are 0, events taken too"

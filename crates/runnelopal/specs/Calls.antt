@@ -4,14 +4,11 @@ use Rattle.std.specs.Prelude.{ℕ, Bool, cond, ◌&&◌, List, eqb}
 use Rattle.access.specs.declared.Access.{Access}
 use Rattle.device.specs.Device.{device_in_range}
 use Rattle.device.specs.declared.Device.{Device}
-use Rattle.interpreter.specs.Interpret.{interpret_log, interpret_result}
-use Rattle.interpreter.specs.declared.InterpretResult.{InterpretResult}
+use Rattle.interpreter.specs.Interpret.{InterpretResult, interpret_log, interpret_result}
 use Rattle.outcome.specs.Number as number
-use Rattle.outcome.specs.Refusal.{refusal}
-use Rattle.outcome.specs.declared.Refusal.{Refusal}
+use Rattle.outcome.specs.Refusal.{Refusal, refusal}
 use Rattle.script.specs.Refusals.{script_refusal}
-use Rattle.sequencer.specs.Run.{bad_image, is_refusal, log_after, run_answer}
-use Rattle.sequencer.specs.declared.RunResult.{RunResult}
+use Rattle.sequencer.specs.Run.{RunResult, bad_image, is_refusal, log_after, run_answer}
 use Rattle.sequencer_state.specs.State.{holds_sequencer, saved as sequencer_saved, sequencer_from}
 use Rattle.state.specs.State.{device_from, holds_device, saved as device_saved}
 use Rattle.step.specs.Sequencer.{sequencer_in_range}

@@ -5,7 +5,7 @@
 use Rattle.std.specs.Prelude.{ℕ, ◌+◌, ◌≡◌, List, ◌++◌, drop, take}
 use Rattle.outcome.specs.Ending as ending
 use Rattle.sequencer.specs.Run.{run_answer}
-use Rattle.sequencer.specs.declared.RunResult.{RunResult}
+use Rattle.sequencer.specs.Run.{RunResult}
 use Rattle.sequencer_state.specs.State.{sequencer_bytes, sequencer_from}
 use Rattle.state.specs.State.{device_from, state_bytes}
 use Rattle.runnelopal.specs.Calls.{AfterRun, saved_run}

@@ -1,23 +1,30 @@
 // The answers of the exported functions. Programs in other languages get them by value, with the layout of a C struct. See
-// bindings/c/runnelopal.h.
+// bindings/c/runnelopal.h. C has no Option and no enum with values, so 0 stands for a number that is missing.
 ghost use Rattle.std.specs.Prelude.{◌≡◌};
+ghost use Rattle.assembler.specs.Assembled.{assembled};
+ghost use Rattle.compiler.specs.Compile.{compiled};
+ghost use Rattle.device.specs.Single.{access_reply, event_reply};
+ghost use Rattle.lister.specs.Listing.{listed};
+ghost use Rattle.outcome.specs.Refused.{refusal_of};
 ghost use Rattle.runnelopal.specs.Answers.{
-  levels,
-  levels_unless_refused,
-  exported_run,
-  exported_interpret,
+  ended,
   exported_access,
+  exported_assemble,
+  exported_compile,
   exported_event,
+  exported_list,
   exported_outputs,
-  outputs_refused,
   exported_sequencer,
+  levels,
+  outputs_refused,
+  refused_answer,
   sequencer_refused,
 };
 
-use device::single::{AccessReply, EventReply};
-use device::{Device, Outputs};
-use interpreter::InterpretResult;
-use sequencer::RunResult;
+use assembler::LineRefused;
+use device::single::{SingleAccess, SingleEvent};
+use device::{Device, Outputs, owner};
+use outcome::{Ending, Refused};
 use step::{COUNTERS, Sequencer};
 
 // The outputs of the chip: SCI, SMI and the monitor interrupt.
@@ -98,90 +105,165 @@ pub struct SequencerAnswer {
     pub counters: [u32; COUNTERS],
 }
 
-pub fn levels(outputs: Outputs) -> OutputLevels
-    ensures { result ≡ levels outputs }
-{
-    OutputLevels {
-        sci: outputs.sci,
-        smi: outputs.smi,
-        monitor: outputs.monitor,
+impl OutputLevels {
+    // The outputs of an answer that is a refusal.
+    const NONE: OutputLevels = OutputLevels {
+        sci: false,
+        smi: false,
+        monitor: false,
+    };
+}
+
+impl From<Outputs> for OutputLevels {
+    ghost from_gives = { λ o r. r ≡ levels o };
+
+    fn from(outputs: Outputs) -> Self {
+        OutputLevels {
+            sci: outputs.sci,
+            smi: outputs.smi,
+            monitor: outputs.monitor,
+        }
     }
 }
 
-// The outputs of the device after a run. After a refusal they are all false.
-fn levels_unless_refused(outcome: u32, device: Device) -> OutputLevels
-    ensures { result ≡ levels_unless_refused outcome device }
-{
-    if sequencer::is_refusal(outcome) {
-        return OutputLevels {
-            sci: false,
-            smi: false,
-            monitor: false,
-        };
+impl From<Result<u32, Refused>> for CompileAnswer {
+    ghost from_gives = { λ c r. r ≡ exported_compile (compiled c) };
+
+    fn from(compiled: Result<u32, Refused>) -> Self {
+        match compiled {
+            Ok(words) => CompileAnswer {
+                refusal: 0,
+                place: 0,
+                words,
+            },
+            Err(refused) => CompileAnswer {
+                refusal: refused.kind.number(),
+                place: refused.place,
+                words: 0,
+            },
+        }
     }
-    levels(device.outputs())
 }
 
-pub fn exported_run(r: RunResult) -> RunAnswer
-    ensures { result ≡ exported_run r }
+impl From<Result<usize, LineRefused>> for AssembleAnswer {
+    ghost from_gives = { λ a r. r ≡ exported_assemble (assembled a) };
+
+    fn from(assembled: Result<usize, LineRefused>) -> Self {
+        match assembled {
+            Ok(records) => AssembleAnswer {
+                refusal: 0,
+                place: 0,
+                records,
+            },
+            Err(refused) => AssembleAnswer {
+                refusal: refused.kind.number(),
+                place: refused.line,
+                records: 0,
+            },
+        }
+    }
+}
+
+impl From<Result<usize, Refused>> for ListAnswer {
+    ghost from_gives = { λ l r. r ≡ exported_list (listed l) };
+
+    fn from(listed: Result<usize, Refused>) -> Self {
+        match listed {
+            Ok(length) => ListAnswer {
+                refusal: 0,
+                place: 0,
+                length,
+            },
+            Err(refused) => ListAnswer {
+                refusal: refused.kind.number(),
+                place: refused.place,
+                length: 0,
+            },
+        }
+    }
+}
+
+impl From<Refused> for RunAnswer {
+    ghost from_gives = { λ f r. r ≡ refused_answer (refusal_of f) };
+
+    fn from(refused: Refused) -> Self {
+        RunAnswer {
+            outcome: refused.kind.number(),
+            place: refused.place,
+            steps: 0,
+            taken: 0,
+            logged: 0,
+            outputs: OutputLevels::NONE,
+        }
+    }
+}
+
+// The answer of a run that ended. Five parameters, since the results of `sequencer::run` and of `interpreter::interpret` are two types.
+pub fn ended(ending: Ending, steps: u32, taken: usize, logged: usize, device: Device) -> RunAnswer
+    ensures { result ≡ ended ending steps taken logged device }
 {
-    let device = r.device;
     RunAnswer {
-        outcome: r.outcome,
-        place: r.place,
-        steps: r.steps,
-        taken: r.taken,
-        logged: r.logged,
-        outputs: levels_unless_refused(r.outcome, device),
+        outcome: ending.number(),
+        place: 0,
+        steps,
+        taken,
+        logged,
+        outputs: OutputLevels::from(device.outputs()),
     }
 }
 
-pub fn exported_interpret(r: InterpretResult) -> RunAnswer
-    ensures { result ≡ exported_interpret r }
-{
-    let device = r.device;
-    RunAnswer {
-        outcome: r.outcome,
-        place: r.place,
-        steps: r.steps,
-        taken: r.taken,
-        logged: r.logged,
-        outputs: levels_unless_refused(r.outcome, device),
+impl From<Result<SingleAccess, Refused>> for AccessAnswer {
+    ghost from_gives = { λ s r. r ≡ exported_access (access_reply s) };
+
+    fn from(single: Result<SingleAccess, Refused>) -> Self {
+        match single {
+            Ok(made) => AccessAnswer {
+                refusal: 0,
+                place: 0,
+                status: made.answer.status.number(),
+                value: made.answer.value,
+                owner: owner::number(made.owner),
+                outputs: OutputLevels::from(made.outputs),
+            },
+            Err(refused) => AccessAnswer {
+                refusal: refused.kind.number(),
+                place: refused.place,
+                status: 0,
+                value: 0,
+                owner: 0,
+                outputs: OutputLevels::NONE,
+            },
+        }
     }
 }
 
-pub fn exported_access(r: AccessReply) -> AccessAnswer
-    ensures { result ≡ exported_access r }
-{
-    let outputs = r.outputs;
-    AccessAnswer {
-        refusal: r.refusal,
-        place: r.place,
-        status: r.status,
-        value: r.value,
-        owner: r.owner,
-        outputs: levels(outputs),
+impl From<Result<SingleEvent, Refused>> for OutputsAnswer {
+    ghost from_gives = { λ s r. r ≡ exported_event (event_reply s) };
+
+    fn from(single: Result<SingleEvent, Refused>) -> Self {
+        match single {
+            Ok(made) => OutputsAnswer {
+                refusal: 0,
+                place: 0,
+                outputs: OutputLevels::from(made.outputs),
+            },
+            Err(refused) => OutputsAnswer {
+                refusal: refused.kind.number(),
+                place: refused.place,
+                outputs: OutputLevels::NONE,
+            },
+        }
     }
 }
 
-pub fn exported_event(r: EventReply) -> OutputsAnswer
-    ensures { result ≡ exported_event r }
-{
-    let outputs = r.outputs;
-    OutputsAnswer {
-        refusal: r.refusal,
-        place: r.place,
-        outputs: levels(outputs),
-    }
-}
-
+// Two functions here and two below, not `From`: each has a definition of its own, which takes any number for the refusal.
 pub fn exported_outputs(device: Device) -> OutputsAnswer
     ensures { result ≡ exported_outputs device }
 {
     OutputsAnswer {
         refusal: 0,
         place: 0,
-        outputs: levels(device.outputs()),
+        outputs: OutputLevels::from(device.outputs()),
     }
 }
 
@@ -191,11 +273,7 @@ pub fn outputs_refused(refusal: u32) -> OutputsAnswer
     OutputsAnswer {
         refusal,
         place: 0,
-        outputs: OutputLevels {
-            sci: false,
-            smi: false,
-            monitor: false,
-        },
+        outputs: OutputLevels::NONE,
     }
 }
 

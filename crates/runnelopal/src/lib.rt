@@ -6,7 +6,8 @@
 pub mod answer;
 mod runs;
 
-ghost use Rattle.std.specs.Prelude.{◌≡◌};
+ghost use Rattle.std.specs.Prelude.{◌≡◌, false, true, MatchOption};
+ghost use Rattle.outcome.specs.Refused.{refusal_in};
 ghost use Rattle.assembler.specs.Assemble.{assemble_result, records_after};
 ghost use Rattle.compiler.specs.Compile.{compile_result, image_after};
 ghost use Rattle.device.specs.Device.{fresh_device};
@@ -35,42 +36,28 @@ use answer::{
     SequencerAnswer,
 };
 use device::Device;
+use outcome::{RefusalKind, Refused};
 use step::Sequencer;
 
 // Compiles a script into the image buffer.
 pub fn runnelopal_raw_compile(script: &[u8], image: &mut [u8]) -> CompileAnswer
     ensures { (result ≡ exported_compile (compile_result script.now image.old)) × (image.new ≡ image_after script.now image.old) }
 {
-    let r = compiler::compile(script, image);
-    CompileAnswer {
-        refusal: r.refusal,
-        place: r.place,
-        words: r.words,
-    }
+    CompileAnswer::from(compiler::compile(script, image))
 }
 
 // Reads a text script into the record buffer.
 pub fn runnelopal_raw_assemble(text: &[u8], records: &mut [u8]) -> AssembleAnswer
     ensures { (result ≡ exported_assemble (assemble_result text.now records.old)) × (records.new ≡ records_after text.now records.old) }
 {
-    let r = assembler::assemble(text, records);
-    AssembleAnswer {
-        refusal: r.refusal,
-        place: r.place,
-        records: r.records,
-    }
+    AssembleAnswer::from(assembler::assemble(text, records))
 }
 
 // Writes the listing of a script to the text buffer.
 pub fn runnelopal_raw_list(script: &[u8], text: &mut [u8]) -> ListAnswer
     ensures { (result ≡ exported_list (list_result script.now text.old)) × (text.new ≡ text_after script.now text.old) }
 {
-    let r = lister::list(script, text);
-    ListAnswer {
-        refusal: r.refusal,
-        place: r.place,
-        length: r.length,
-    }
+    ListAnswer::from(lister::list(script, text))
 }
 
 // Runs an image from a saved device and a saved sequencer, and saves both after the run.
@@ -114,64 +101,82 @@ pub fn runnelopal_entry_value(entry: u64) -> u32
     log_entry::value(entry)
 }
 
+// The number of the refusal, or 0, as C programs get it.
+fn number_of(saved: Result<(), Refused>) -> u32
+    ensures { result ≡ (refusal_in saved).number }
+{
+    match saved {
+        Ok(()) => 0,
+        Err(refused) => refused.kind.number(),
+    }
+}
+
 // Saves the fresh device. Refuses a slice that does not have the length of a saved device, with 11.
 pub fn runnelopal_raw_fresh_device(device: &mut [u8]) -> u32
     ensures { (result ≡ (deviceState.save_refusal device.old).number) × (device.new ≡ deviceState.saved fresh_device device.old) }
 {
-    let fresh = Device::fresh();
-    let saved = state::save(fresh, device);
-    saved.number
+    number_of(state::save(Device::fresh(), device))
 }
 
 // Saves the fresh sequencer. Refuses a slice that does not have the length of a saved sequencer, with 11.
 pub fn runnelopal_raw_fresh_sequencer(sequencer: &mut [u8]) -> u32
     ensures { (result ≡ (sequencerState.save_refusal sequencer.old).number) × (sequencer.new ≡ sequencerState.saved fresh_sequencer sequencer.old) }
 {
-    let fresh = Sequencer::fresh();
-    let saved = sequencer_state::save(fresh, sequencer);
-    saved.number
+    number_of(sequencer_state::save(Sequencer::fresh(), sequencer))
+}
+
+// The device that the bytes hold, if it is not refused with 11.
+fn device_in(bytes: &[u8]) -> Option<Device>
+    ensures { MatchOption result (valid_device bytes.now ≡ false) (λ d. (valid_device bytes.now ≡ true) × (d ≡ deviceState.device_from bytes.now)) }
+{
+    match state::load(bytes) {
+        Ok(device) if device.in_range() => Some(device),
+        _ => None,
+    }
+}
+
+// The sequencer that the bytes hold, if it is not refused with 11.
+fn sequencer_in(bytes: &[u8]) -> Option<Sequencer>
+    ensures { MatchOption result (valid_sequencer bytes.now ≡ false) (λ s. (valid_sequencer bytes.now ≡ true) × (s ≡ sequencerState.sequencer_from bytes.now)) }
+{
+    match sequencer_state::load(bytes) {
+        Ok(sequencer) if sequencer.in_range() => Some(sequencer),
+        _ => None,
+    }
 }
 
 // Whether the bytes are a device that is not refused with 11.
 pub fn runnelopal_raw_valid_device(device: &[u8]) -> bool
     ensures { result ≡ valid_device device.now }
 {
-    if state::holds_device(device) {
-        return runs::device_in(device).in_range();
-    }
-    false
+    device_in(device).is_some()
 }
 
 // Whether the bytes are a sequencer that is not refused with 11.
 pub fn runnelopal_raw_valid_sequencer(sequencer: &[u8]) -> bool
     ensures { result ≡ valid_sequencer sequencer.now }
 {
-    if sequencer_state::holds_sequencer(sequencer) {
-        return runs::sequencer_in(sequencer).in_range();
-    }
-    false
+    sequencer_in(sequencer).is_some()
 }
 
 // The outputs of a saved device.
 pub fn runnelopal_raw_outputs(device: &[u8]) -> OutputsAnswer
     ensures { result ≡ saved_outputs device.now }
 {
-    if !runnelopal_raw_valid_device(device) {
-        return answer::outputs_refused(outcome::BAD_STATE);
+    match device_in(device) {
+        Some(held) => answer::exported_outputs(held),
+        None => answer::outputs_refused(RefusalKind::BadState.number()),
     }
-    let held = runs::device_in(device);
-    answer::exported_outputs(held)
 }
 
 // The place and the counters of a saved sequencer.
 pub fn runnelopal_raw_sequencer(sequencer: &[u8]) -> SequencerAnswer
     ensures { result ≡ saved_sequencer_answer sequencer.now }
 {
-    if !runnelopal_raw_valid_sequencer(sequencer) {
-        return answer::sequencer_refused(outcome::BAD_STATE);
+    match sequencer_in(sequencer) {
+        Some(held) => answer::exported_sequencer(held),
+        None => answer::sequencer_refused(RefusalKind::BadState.number()),
     }
-    let held = runs::sequencer_in(sequencer);
-    answer::exported_sequencer(held)
 }
 
 // One access to a saved device.
@@ -190,12 +195,12 @@ pub fn runnelopal_raw_access(
         port,
         value,
     };
-    answer::exported_access(state::call::access(device, access))
+    AccessAnswer::from(state::call::access(device, access))
 }
 
 // One event on a saved device.
 pub fn runnelopal_raw_event(device: &mut [u8], number: u32) -> OutputsAnswer
     ensures { (result ≡ exported_event (saved_event device.old number)) × (device.new ≡ bytes_after_event device.old number) }
 {
-    answer::exported_event(state::call::event(device, number))
+    OutputsAnswer::from(state::call::event(device, number))
 }

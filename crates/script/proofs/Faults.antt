@@ -5,7 +5,7 @@ use mathlib.Core.Path.{◌≡◌, refl, sym, ◌∙◌}
 use mathlib.Core.Bool.{Bool, true, false, cond, not, true≢false}
 use mathlib.Core.List.{List, [], ◌∷◌}
 use mathlib.Core.Logic.{◌⊎◌, inl, inr}
-use borrow.Author.Tests.{eqb-true, le-ltb, ltb-false, ltb-true, ne_eqb, not-false}
+use borrow.Author.Tests.{eqb-true, le-ltb, ltb-false, ne_eqb, not-false}
 use lib.Dec.{eqb, ltb}
 use lib.ListN.{length}
 use native.Mathlib.Omega.{arith}
@@ -30,7 +30,7 @@ from_least (false ∷ bs) at = later (from_least bs (suc at))
     later : (first_from (suc at) bs ≡ 0) ⊎ (suc at ≤ first_from (suc at) bs)
         → (first_from (suc at) bs ≡ 0) ⊎ (at ≤ first_from (suc at) bs)
     later (inl z) = inl z
-    later (inr l) = inr (omega (arith, l))
+    later (inr l) = inr (omega arith)
 
 module _ (blocks : List ℕ) (r : Record) where
   -- a record without a fault
@@ -46,8 +46,8 @@ module _ (blocks : List ℕ) (r : Record) where
     least : (m : ℕ) → m < n → has_fault m blocks r ≡ false
 
   found : (n : ℕ) → first_from 2 (faults blocks r) ≡ n → 2 ≤ n → Least n
-  found zero e l = absurd (omega (arith, l))
-  found (suc zero) e l = absurd (omega (arith, l))
+  found zero e l = absurd (omega arith)
+  found (suc zero) e l = absurd (omega arith)
   found (suc (suc j)) e l =
       let q = first_from_lem (faults blocks r) 2 j (omega arith) (e ∙ omega arith) in
       record { has = q.holds; least = lower q.none_before }
@@ -55,7 +55,7 @@ module _ (blocks : List ℕ) (r : Record) where
       lower : ((i : ℕ) → i < j → holds_at (faults blocks r) (suc i) ≡ false) → (m : ℕ) → m < suc (suc j) → has_fault m blocks r ≡ false
       lower f zero l = refl
       lower f (suc zero) l = refl
-      lower f (suc (suc i)) l = f i (omega (arith, l))
+      lower f (suc (suc i)) l = f i (omega arith)
 
   one_has : (record_fault blocks r ≡ 0) ⊎ Least (record_fault blocks r)
   unfolding record_fault
@@ -101,7 +101,7 @@ first_or_none (r ∷ rs) blocks = pick (one_has blocks r) (first_or_none rs (ope
         (record {
           number = record_fault blocks r;
           at = 0;
-          first = record { has = l.has; least = l.least; earliest = λ m j p. absurd (omega (arith, p)) };
+          first = record { has = l.has; least = l.least; earliest = λ m j p. absurd (omega arith) };
         })
     pick (inl z) (inl f) = inl
         (record {
@@ -112,24 +112,12 @@ first_or_none (r ∷ rs) blocks = pick (one_has blocks r) (first_or_none rs (ope
       where
         earlier : (m j : ℕ) → j < suc f.at → fault_at m blocks (r ∷ rs) j ≡ false
         earlier m zero p = none_has blocks r z m
-        earlier m (suc j) p = f.first.earliest m j (omega (arith, p))
+        earlier m (suc j) p = f.first.earliest m j (omega arith)
     pick (inl z) (inr none) = inr all
       where
         all : (n k : ℕ) → fault_at n blocks (r ∷ rs) k ≡ false
         all n zero = none_has blocks r z n
         all n (suc k) = none n k
-
--- two numbers of which neither is less are the same
-only : (m n : ℕ) → (m < n → ⊥) → (n < m → ⊥) → m ≡ n
-only m n f g = pick (ltb m n) (ltb n m) refl refl
-  where
-    pick : (a b : Bool) → ltb m n ≡ a → ltb n m ≡ b → m ≡ n
-    pick true b p q = absurd (f (ltb-true m n p))
-    pick false true p q = absurd (g (ltb-true n m q))
-    pick false false p q =
-        let a = ltb-false m n p in
-        let b = ltb-false n m q in
-        omega (arith, a, b)
 
 -- the refusal of a list whose first fault is n, at record k
 module _ (n : ℕ) where
@@ -143,16 +131,16 @@ module _ (n : ℕ) where
           → first_fault blocks place (r ∷ rs) ≡ refusal n (place + 0)
       pick (inl z) = absurd (true≢false (sym f.has ∙ none_has blocks r z n))
       pick (inr l) =
-          let e : record_fault blocks r ≡ n = only (record_fault blocks r) n
-          (λ p. true≢false (sym l.has ∙ f.least (record_fault blocks r) p))
-          (λ p. true≢false (sym f.has ∙ l.least n p)) in
+          let not_less : record_fault blocks r < n → ⊥ = λ p. true≢false (sym l.has ∙ f.least (record_fault blocks r) p) in
+          let not_more : n < record_fault blocks r → ⊥ = λ p. true≢false (sym f.has ∙ l.least n p) in
+          let e : record_fault blocks r ≡ n = omega arith in
           let b = (bounded blocks r n f.has).0 in
           let here : place + 0 ≡ place = omega arith in
-          rw (e, ne_eqb n 0 (λ z. omega (arith, b, z)), here)
+          rw (e, ne_eqb n 0 (λ z. omega arith), here)
   first_refused (r ∷ rs) blocks place (suc k) f =
       pick (one_has blocks r)
       (first_refused rs (open_after blocks r.kind) (suc place) k
-      (record { has = f.has; least = f.least; earliest = λ m j p. f.earliest m (suc j) (omega (arith, p)) }))
+      (record { has = f.has; least = f.least; earliest = λ m j p. f.earliest m (suc j) (omega arith) }))
     where
       pick : (record_fault blocks r ≡ 0) ⊎ Least blocks r (record_fault blocks r)
           → first_fault (open_after blocks r.kind) (suc place) rs ≡ refusal n (suc place + k)
@@ -197,7 +185,7 @@ positive_end (r ∷ rs) blocks p = positive_end rs (open_after blocks r.kind) (p
 
 innermost_zero : (blocks : List ℕ) → Positive blocks → innermost blocks ≡ 0 → blocks ≡ []
 innermost_zero [] p z = refl
-innermost_zero (b ∷ bs) p z = let l = p.0 in absurd (omega (arith, l, z))
+innermost_zero (b ∷ bs) p z = let l = p.0 in absurd (omega arith)
 
 pub closed : (rs : List Record) → innermost (open_at_end [] rs) ≡ 0 → open_at_end [] rs ≡ []
 closed rs z = innermost_zero (open_at_end [] rs) (positive_end rs [] tt) z
@@ -208,10 +196,10 @@ good_length_lem script h =
     let d = neither (not (eqb (length script % 12) 0)) (ltb 1024 (record_count script)) h in
     let z = eqb-true (length script % 12) 0 (not-false (eqb (length script % 12) 0) d.0) in
     let l = ltb-false 1024 (record_count script) d.1 in
-    (z, omega (arith, z, l))
+    (z, omega arith)
 
 pub length_good : (script : List ℕ) → GoodLength script → bad_length script ≡ false
 length_good script g =
     let z = g.0 in
     let l = g.1 in
-    rw (z, le-ltb 1024 (record_count script) (omega (arith, z, l)))
+    rw (z, le-ltb 1024 (record_count script) (omega arith))

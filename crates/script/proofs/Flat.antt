@@ -16,8 +16,7 @@ use Rattle.script.specs.Nested.{Body, done, write, read, delay, repeat, if, if_e
 use Rattle.script.specs.Fields.{kind_fields}
 use Rattle.script.specs.Records.{record_count, records_of}
 use Rattle.script.specs.Refusals.{bad_fields, bad_kind, bad_length, first_fault, good_fields, misplaced, open_after, record_fault, repeats_in, script_refusal, too_deep, too_many_words, words_in, wrong_mark}
-use Rattle.outcome.specs.Refusal.{refusal}
-use Rattle.outcome.specs.declared.Refusal.{Refusal}
+use Rattle.outcome.specs.Refusal.{Refusal, refusal}
 
 -- the records of a reading, as a list
 abbrev pub unread : Reading → List Record

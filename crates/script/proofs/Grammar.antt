@@ -11,8 +11,7 @@ use lib.ListN.{length}
 use native.Mathlib.Omega.{arith}
 use Rattle.mask.proofs.Every.{both, neither}
 use Rattle.record.specs.declared.Record.{Record}
-use Rattle.outcome.specs.Refusal.{refusal}
-use Rattle.outcome.specs.declared.Refusal.{Refusal}
+use Rattle.outcome.specs.Refusal.{Refusal, refusal}
 use Rattle.width.specs.Width.{fits_width, is_width}
 use Rattle.script.specs.Grammar.{Legal, LegalScript, Width, words_for}
 use Rattle.script.specs.Nested.{Body, done, write, read, delay, repeat, if, if_else, script_record, else_record, end_record, flat, body_in, reading_of}
@@ -37,14 +36,14 @@ is_width_lem w (inr (inl e)) = rw e
 is_width_lem w (inr (inr e)) = rw e
 
 fits_of : (w v : ℕ) → Width w → fits_width w v ≡ true → v < 256 ^ w
-fits_of w v (inl e) h = rw e (let l = leb-true v 255 (rw e at h) in omega (arith, l))
-fits_of w v (inr (inl e)) h = rw e (let l = leb-true v 65535 (rw e at h) in omega (arith, l))
-fits_of w v (inr (inr e)) h = rw e (let l = leb-true v 4294967295 (rw e at h) in omega (arith, l))
+fits_of w v (inl e) h = rw e (let l = leb-true v 255 (rw e at h) in omega arith)
+fits_of w v (inr (inl e)) h = rw e (let l = leb-true v 65535 (rw e at h) in omega arith)
+fits_of w v (inr (inr e)) h = rw e (let l = leb-true v 4294967295 (rw e at h) in omega arith)
 
 does_fit : (w v : ℕ) → Width w → v < 256 ^ w → fits_width w v ≡ true
-does_fit w v (inl e) h = rw e (let l : v < 256 = rw e at h in le-leb v 255 (omega (arith, l)))
-does_fit w v (inr (inl e)) h = rw e (let l : v < 65536 = rw e at h in le-leb v 65535 (omega (arith, l)))
-does_fit w v (inr (inr e)) h = rw e (let l : v < 4294967296 = rw e at h in le-leb v 4294967295 (omega (arith, l)))
+does_fit w v (inl e) h = rw e (let l : v < 256 = rw e at h in le-leb v 255 (omega arith))
+does_fit w v (inr (inl e)) h = rw e (let l : v < 65536 = rw e at h in le-leb v 65535 (omega arith))
+does_fit w v (inr (inr e)) h = rw e (let l : v < 4294967296 = rw e at h in le-leb v 4294967295 (omega arith))
 
 -- ---- a list without a fault: its first record has none, and the rest has none
 step :
@@ -194,22 +193,22 @@ faultless (if_else p w m b c rest) blocks place tl l =
 pub words_flat :
     (b : Body) (blocks : List ℕ) (tl : List Record) → word_count blocks (flat b tl) ≡ words_for b + word_count blocks tl
 words_flat done blocks tl = omega arith
-words_flat (write p w v rest) blocks tl = let i = words_flat rest blocks tl in omega (arith, i)
-words_flat (read p w rest) blocks tl = let i = words_flat rest blocks tl in omega (arith, i)
-words_flat (delay n rest) blocks tl = let i = words_flat rest blocks tl in omega (arith, i)
+words_flat (write p w v rest) blocks tl = let i = words_flat rest blocks tl in omega arith
+words_flat (read p w rest) blocks tl = let i = words_flat rest blocks tl in omega arith
+words_flat (delay n rest) blocks tl = let i = words_flat rest blocks tl in omega arith
 words_flat (repeat n b rest) blocks tl =
     let i = words_flat b (4 ∷ blocks) (end_record ∷ flat rest tl) in
     let j = words_flat rest blocks tl in
-    omega (arith, i, j)
+    omega arith
 words_flat (if p w m b rest) blocks tl =
     let i = words_flat b (5 ∷ blocks) (end_record ∷ flat rest tl) in
     let j = words_flat rest blocks tl in
-    omega (arith, i, j)
+    omega arith
 words_flat (if_else p w m b c rest) blocks tl =
     let i = words_flat b (5 ∷ blocks) (else_record ∷ flat c (end_record ∷ flat rest tl)) in
     let j = words_flat c (6 ∷ blocks) (end_record ∷ flat rest tl) in
     let k = words_flat rest blocks tl in
-    omega (arith, i, j, k)
+    omega arith
 
 -- ---- scripts
 from_length : (n place : ℕ) (bytes : List ℕ) → length (records_from n place bytes) ≡ n
@@ -235,10 +234,10 @@ legal_script script h =
     record {
       body = b;
       records = e;
-      whole_records = omega (arith, size, whole);
-      few_records = omega (arith, size, most);
+      whole_records = omega arith;
+      few_records = omega arith;
       legal = (legal_of b [] 0 [] clear).0;
-      few_words = omega (arith, words, few);
+      few_words = omega arith;
     }
 
 -- and none of them applies to a legal script
@@ -256,7 +255,7 @@ legal_accepted script g =
     ap (λ (rs : List Record). (first_fault [] 0 rs).number) g.records ∙ ap (λ (f : Refusal). f.number) (faultless b [] 0 [] g.legal) in
     let words : words_in script ≡ words_for b + 1 = ap (λ (rs : List Record). word_count [] rs) g.records ∙ words_flat b [] [] in
     let few = g.few_words in
-    let z : length script % 12 ≡ 0 = omega (arith, whole) in
-    let n : record_count script ≤ 1024 = omega (arith, size, most) in
+    let z : length script % 12 ≡ 0 = omega arith in
+    let n : record_count script ≤ 1024 = omega arith in
     let l : bad_length script ≡ false = rw (z, le-ltb 1024 (record_count script) n) in
-    record { accepted = accepted_by script l clear (omega (arith, words, few)); words = omega (arith, words) }
+    record { accepted = accepted_by script l clear (omega arith); words = omega arith }

@@ -1,7 +1,7 @@
--- The loop of the scan. A record is checked by itself, then by its place, then by the repeats around it. Before each record
+-- The loop of the scan. A record is checked by itself, then by the repeats around it, then by its place. Before each record
 -- `ScanInvariant` holds: the fault and the words of the whole script follow from the records that are left. A fault ends the scan with
 -- its number and place, a record without a fault keeps the invariant, and after the last record only an open block is a fault.
-use Prim.Native.Nat.{ℕ, zero, suc, ◌+◌, ◌-◌, ◌*◌, ◌≤◌, ◌<◌}
+use Prim.Native.Nat.{ℕ, suc, ◌+◌, ◌-◌, ◌*◌, ◌≤◌, ◌<◌}
 use mathlib.Core.Path.{◌≡◌, refl, sym, ap, ◌∙◌}
 use mathlib.Core.Bool.{Bool, true, false, cond, ◌&&◌, ◌||◌, or-true}
 use mathlib.Core.List.{List, [], ◌∷◌}
@@ -9,18 +9,14 @@ use native.Mathlib.Numerals.{add-one}
 use native.Mathlib.Omega.{arith}
 use borrow.Author.Tests.{ne_eqb, le-leb, le-ltb, lt-leb, lt-ltb, eqb-false, eqb-true}
 use lib.Dec.{eqb, leb}
-use lib.ListN.{length, get_or}
-use Rattle.lists.specs.Stack.{stack_of}
-use Rattle.lists.proofs.Stack.{stack_length}
+use lib.ListN.{length}
 use Rattle.lists.proofs.Tests.{none_from}
 use Rattle.record.specs.Record.{record_at, record_size}
 use Rattle.record.specs.declared.Record.{Record}
 use Rattle.script.specs.Records.{record_count, records_from, records_of}
 use Rattle.script.specs.Refusals.{bad_fields, bad_kind, first_fault, emits_word, innermost, misplaced, open_after, record_fault, repeats_in, too_deep, script_refusal, too_many_words, word_count, words_in, wrong_mark, bad_length}
-use Rattle.outcome.specs.Refusal.{refusal}
-use Rattle.outcome.specs.declared.Refusal.{Refusal}
-use Rattle.script.specs.Scan.{OpenArray, full, place_fault, records_scan, refusal_at, script_scan, shape_fault}
-use Rattle.script.specs.declared.ScanResult.{ScanResult}
+use Rattle.outcome.specs.Refusal.{Refusal, refusal}
+use Rattle.script.specs.Scan.{ScanResult, full, place_fault, records_scan, refusal_at, script_scan, shape_fault}
 use Rattle.script.proofs.Records.{after_last_lem, from_here}
 
 -- ---- the fault of a record, from the record itself and from the open blocks
@@ -37,33 +33,12 @@ fault_parts blocks r = pick (wrong_mark r) (bad_kind r) (bad_fields r) (cond (mi
     pick false false true n = refl
     pick false false false n = refl
 
--- ---- counting the repeats among the open blocks
-one_more : (b : Bool) (n : ℕ) → cond b (suc n) n ≡ n + cond b 1 0
-one_more true n = sym (add-one n)
-one_more false n = omega arith
-
-pub repeats_more : (n : ℕ) (xs : List ℕ) → repeats_in (stack_of (n + 1) xs) ≡ repeats_in (stack_of n xs) + cond (eqb (get_or xs n 0) 4) 1 0
-repeats_more n xs = rw add-one (one_more (eqb (get_or xs n 0) 4) (repeats_in (stack_of n xs)))
-
-grows : (b : Bool) (m n : ℕ) → n ≤ m → n ≤ cond b (suc m) m
-grows true m n h = omega arith
-grows false m n h = h
-
-pub repeats_within : (n m : ℕ) (xs : List ℕ) → repeats_in (stack_of n xs) ≤ repeats_in (stack_of (n + m) xs)
-repeats_within n zero xs =
-    let e : n + zero ≡ n = omega arith in
-    rw e (omega arith)
-repeats_within n (suc m) xs =
-    let e : n + suc m ≡ suc (n + m) = omega arith in
-    rw e (grows (eqb (get_or xs (n + m) 0) 4) (repeats_in (stack_of (n + m) xs)) (repeats_in (stack_of n xs)) (repeats_within n m xs))
-
 -- ---- the fault of a record, check by check
 module _ (blocks : List ℕ) (r : Record) where
   pub shape_first : (n : ℕ) → n ≡ shape_fault r → (n ≡ 0 → ⊥) → record_fault blocks r ≡ n
   shape_first n e z = fault_parts blocks r ∙ (rw (← e, ne_eqb n 0 z))
 
   pub place_next : (n : ℕ) → shape_fault r ≡ 0 → n ≡ place_fault blocks r.kind → (n ≡ 0 → ⊥) → record_fault blocks r ≡ n
-  unfolding place_fault
   place_next n s e z =
       fault_parts blocks r
       ∙ (rw s (pick (misplaced blocks r.kind) (full (length blocks) r.kind) (eqb r.kind 4 && leb 8 (repeats_in blocks)) e))
@@ -73,81 +48,32 @@ module _ (blocks : List ℕ) (r : Record) where
       pick false true t q = sym q
       pick false false t q = absurd (z q)
 
--- a record without a fault of its place is not misplaced, and opens no block inside 16
-pub placed : (blocks : List ℕ) (depth kind : ℕ) → place_fault (stack_of depth blocks) kind ≡ 0
-    → (misplaced (stack_of depth blocks) kind ≡ false) × (full depth kind ≡ false)
-unfolding place_fault
-placed blocks depth kind h =
-    let none = none_from (misplaced (stack_of depth blocks) kind ∷ full depth kind ∷ []) 5 (omega arith) (rw (stack_length depth blocks) at h) in
-    (none 0, none 1)
-
--- writes, reads and delays are allowed anywhere
-pub anywhere : (blocks : List ℕ) (kind : ℕ) → kind ≤ 3 → place_fault blocks kind ≡ 0
-unfolding place_fault
-anywhere blocks kind h = simp (
-  ne_eqb kind 4 (λ e. omega arith),
-  ne_eqb kind 5 (λ e. omega arith),
-  ne_eqb kind 6 (λ e. omega arith),
-  ne_eqb kind 7 (λ e. omega arith),
-)
+  -- a record that has no fault by itself and by its place has none, if it is no repeat inside 8 repeats
+  pub good : shape_fault r ≡ 0 → place_fault blocks r.kind ≡ 0 → (r.kind ≡ 4 → repeats_in blocks < 8) → record_fault blocks r ≡ 0
+  good s p few =
+      let q = none_from (misplaced blocks r.kind ∷ full (length blocks) r.kind ∷ []) 5 (omega arith) p in
+      fault_parts blocks r ∙ (rw (s, q 0, q 1, pick (eqb r.kind 4) refl))
+    where
+      pick : (b : Bool) → eqb r.kind 4 ≡ b → (b && leb 8 (repeats_in blocks)) ≡ false
+      pick true e = lt-leb 8 (repeats_in blocks) (few (eqb-true r.kind 4 e))
+      pick false e = refl
 
 -- a repeat is never misplaced, so one inside 8 repeats is refused for its depth
-pub ninth_repeat : (blocks : List ℕ) (depth n : ℕ) (r : Record) → shape_fault r ≡ 0 → r.kind ≡ 4 → n ≤ depth
-    → repeats_in (stack_of n blocks) ≡ 8 → record_fault (stack_of depth blocks) r ≡ 6
-ninth_repeat blocks depth n r s e h eight =
-    let m : n + (depth - n) ≡ depth = omega arith in
-    let l : 8 ≤ repeats_in (stack_of depth blocks) = rw m at (rw eight at (repeats_within n (depth - n) blocks)) in
-    fault_parts (stack_of depth blocks) r
-    ∙ (rw (s, e, le-leb 8 (repeats_in (stack_of depth blocks)) l, or-true (leb 16 (length (stack_of depth blocks)))))
-
--- a record that has no fault by itself and by its place has no fault, if fewer than 8 repeats are counted
-pub good : (blocks : List ℕ) (depth : ℕ) (r : Record) → shape_fault r ≡ 0 → place_fault (stack_of depth blocks) r.kind ≡ 0
-    → repeats_in (stack_of (cond (eqb r.kind 4) depth 0) blocks) < 8 → record_fault (stack_of depth blocks) r ≡ 0
-good blocks depth r s p few =
-    let q = placed blocks depth r.kind p in
-    fault_parts (stack_of depth blocks) r
-    ∙ (rw (s, q.0, stack_length depth blocks, q.1, pick (eqb r.kind 4) few))
-  where
-    pick : (b : Bool) → repeats_in (stack_of (cond b depth 0) blocks) < 8 → (b && leb 8 (repeats_in (stack_of depth blocks))) ≡ false
-    pick true l = lt-leb 8 (repeats_in (stack_of depth blocks)) l
-    pick false l = refl
-
-pub search_within : (b : Bool) (d : ℕ) → cond b d 0 ≤ d
-search_within true d = omega arith
-search_within false d = omega arith
-
--- repeats are counted only for a record that is a repeat
-pub searched_if_repeat : (kind d b : ℕ) → b < cond (eqb kind 4) d 0 → kind ≡ 4
-searched_if_repeat kind d b h = pick (eqb kind 4) refl h
-  where
-    pick : (t : Bool) → eqb kind 4 ≡ t → b < cond t d 0 → kind ≡ 4
-    pick true e l = eqb-true kind 4 e
-    pick false e l = absurd (omega arith)
+pub ninth_repeat : (blocks : List ℕ) (r : Record) → shape_fault r ≡ 0 → r.kind ≡ 4 → 8 ≤ repeats_in blocks → record_fault blocks r ≡ 6
+ninth_repeat blocks r s e l =
+    fault_parts blocks r ∙ (rw (s, e, le-leb 8 (repeats_in blocks) l, or-true (leb 16 (length blocks))))
 
 -- ---- the loop invariant: what holds before record k of `count` records
-pub record ScanInvariant (bytes : List ℕ) (count : ℕ) (blocks : List ℕ) (depth words number k : ℕ) : Type 0 where
-  pub kept : OpenArray blocks depth
-  pub inside : k ≤ count
-  pub clear : number ≡ 0
-  pub fault :
-      first_fault [] 0 (records_from count 0 bytes) ≡ first_fault (stack_of depth blocks) k (records_from (count - k) k bytes)
-  pub given :
-      words + word_count (stack_of depth blocks) (records_from (count - k) k bytes)
-      ≡ suc (word_count [] (records_from count 0 bytes))
+pub record ScanInvariant (bytes : List ℕ) (count : ℕ) (blocks : List ℕ) (words k : ℕ) : Type 0 where
+  pub fault : first_fault [] 0 (records_from count 0 bytes) ≡ first_fault blocks k (records_from (count - k) k bytes)
+  pub given : words + word_count blocks (records_from (count - k) k bytes) ≡ suc (word_count [] (records_from count 0 bytes))
   pub few : words ≤ suc k
 
 -- the invariant holds before the first record
-pub starts : (bytes : List ℕ) (count : ℕ) (blocks : List ℕ) → length blocks ≡ 16 → ScanInvariant bytes count blocks 0 1 0 0
-starts bytes count blocks l =
+pub starts : (bytes : List ℕ) (count : ℕ) → ScanInvariant bytes count [] 1 0
+starts bytes count =
     let z : count - 0 ≡ count = omega arith in
-    record {
-      kept = record { deep = omega arith; sized = l };
-      inside = omega arith;
-      clear = refl;
-      fault = rw z;
-      given = rw z (omega arith);
-      few = omega arith;
-    }
+    record { fault = rw z; given = rw z (omega arith); few = omega arith }
 
 counted : (b : Bool) (words w t : ℕ) → words + cond b (suc w) w ≡ t → (words + cond b 1 0) + w ≡ t
 counted true words w t h = omega arith
@@ -158,45 +84,42 @@ at_most_one true = omega arith
 at_most_one false = omega arith
 
 -- ---- what the scan returns, and how the invariant goes from one record to the next
-pub scan_faulted : (bytes : List ℕ) (count number k : ℕ) → count ≡ record_count bytes
+scan_faulted : (bytes : List ℕ) (count number k : ℕ) → count ≡ record_count bytes
     → first_fault [] 0 (records_from count 0 bytes) ≡ refusal number k → (number ≡ 0 → ⊥) → refusal_at number k ≡ records_scan bytes
 unfolding records_scan records_of
 scan_faulted bytes count number k e f z = rw (rw e at f, ne_eqb number 0 z)
 
-module _ (bytes : List ℕ) (count : ℕ) (blocks : List ℕ) (depth words number k : ℕ) (g : ScanInvariant bytes count blocks depth words number k) where
+module _ (bytes : List ℕ) (count : ℕ) (blocks : List ℕ) (words k : ℕ) (g : ScanInvariant bytes count blocks words k) where
   -- a fault ends the scan with its number and place
-  pub faulty : (r : Record) (n : ℕ) → k < count → r ≡ record_at bytes (record_size * k) → record_fault (stack_of depth blocks) r ≡ n
-      → (n ≡ 0 → ⊥) → first_fault [] 0 (records_from count 0 bytes) ≡ refusal n k
-  faulty r n h q e z =
-      g.fault ∙ ap (first_fault (stack_of depth blocks) k) (from_here bytes count k h) ∙ (rw (rw q at e, ne_eqb n 0 z))
+  pub faulty : (r : Record) (n : ℕ) → count ≡ record_count bytes → k < count → r ≡ record_at bytes (record_size * k)
+      → record_fault blocks r ≡ n → (n ≡ 0 → ⊥) → refusal_at n k ≡ records_scan bytes
+  faulty r n c h q e z =
+      scan_faulted bytes count n k c (g.fault ∙ ap (first_fault blocks k) (from_here bytes count k h) ∙ (rw (rw q at e, ne_eqb n 0 z))) z
 
   -- a record without a fault keeps the invariant
-  pub further : (r : Record) (later : List ℕ) (next clear : ℕ) → k < count → r ≡ record_at bytes (record_size * k) → OpenArray later next
-      → clear ≡ 0 → record_fault (stack_of depth blocks) r ≡ 0 → stack_of next later ≡ open_after (stack_of depth blocks) r.kind
-      → ScanInvariant bytes count later next (words + cond (emits_word (stack_of depth blocks) r.kind) 1 0) clear (k + 1)
-  further r later next clear h q kp c z e = record {
-    kept = kp;
-    inside = omega arith;
-    clear = c;
-    fault = g.fault ∙ ap (first_fault (stack_of depth blocks) k) here ∙ (rw (z, add-one k, e));
+  pub further : (r : Record) (later : List ℕ) → k < count → r ≡ record_at bytes (record_size * k)
+      → record_fault blocks r ≡ 0 → later ≡ open_after blocks r.kind
+      → ScanInvariant bytes count later (words + cond (emits_word blocks r.kind) 1 0) (k + 1)
+  further r later h q z e = record {
+    fault = g.fault ∙ ap (first_fault blocks k) here ∙ (rw (z, add-one k, e));
     given =
         rw e
-        (counted (emits_word (stack_of depth blocks) r.kind) words
-        (word_count (open_after (stack_of depth blocks) r.kind) (records_from (count - (k + 1)) (k + 1) bytes)) _
-        (ap (λ (l : List Record). words + word_count (stack_of depth blocks) l) (sym here) ∙ g.given));
-    few = omega (arith, g.few, at_most_one (emits_word (stack_of depth blocks) r.kind));
+        (counted (emits_word blocks r.kind) words
+        (word_count (open_after blocks r.kind) (records_from (count - (k + 1)) (k + 1) bytes)) _
+        (ap (λ (l : List Record). words + word_count blocks l) (sym here) ∙ g.given));
+    few = omega (arith, g.few, at_most_one (emits_word blocks r.kind));
   }
     where
       here : records_from (count - k) k bytes ≡ r ∷ records_from (count - (k + 1)) (k + 1) bytes
       here = rw (from_here bytes count k h, q)
 
-  pub scan_unended : count ≤ k → count ≡ record_count bytes → (innermost (stack_of depth blocks) ≡ 0 → ⊥)
-      → refusal_at 7 k ≡ records_scan bytes
+  pub scan_unended : k ≡ count → count ≡ record_count bytes → (innermost blocks ≡ 0 → ⊥)
+      → refusal_at 7 count ≡ records_scan bytes
   scan_unended h e z =
-      let f = rw (after_last_lem bytes count k h) at g.fault in
-      scan_faulted bytes count 7 k e (f ∙ (rw (ne_eqb (innermost (stack_of depth blocks)) 0 z))) (λ q. omega arith)
+      let f = rw (after_last_lem bytes count k (omega arith)) at g.fault in
+      rw h at (scan_faulted bytes count 7 k e (f ∙ (rw (ne_eqb (innermost blocks) 0 z))) (λ q. omega arith))
 
-  pub scan_done : count ≤ k → count ≡ record_count bytes → innermost (stack_of depth blocks) ≡ 0
+  pub scan_done : count ≤ k → count ≡ record_count bytes → innermost blocks ≡ 0
       → ◌≡◌ {A = ScanResult} (record { number = 0; place = 0; words = words }) (records_scan bytes)
   unfolding records_scan records_of
   scan_done h e z =

@@ -1,8 +1,10 @@
+pub mod Blocks
 pub mod Faults
 pub mod Fields
 pub mod Grammar
 pub mod Kind
+pub mod Kinds
 pub mod Nested
-pub mod Refusals
 pub mod Records
+pub mod Refusals
 pub mod Scan

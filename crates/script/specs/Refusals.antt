@@ -3,8 +3,7 @@
 use Rattle.std.specs.Prelude.{ℕ, suc, ◌%◌, Bool, cond, not, ◌&&◌, ◌||◌, List, [], ◌∷◌, eqb, leb, ltb, length}
 use Rattle.lists.specs.Tests.{first_from}
 use Rattle.outcome.specs.Number as number
-use Rattle.outcome.specs.Refusal.{refusal}
-use Rattle.outcome.specs.declared.Refusal.{Refusal}
+use Rattle.outcome.specs.Refusal.{Refusal, refusal}
 use Rattle.record.specs.Record.{most_records, record_size}
 use Rattle.record.specs.declared.Record.{Record}
 use Rattle.script.specs.Fields.{kind_fields}

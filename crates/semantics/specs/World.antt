@@ -2,13 +2,12 @@
 -- sequencer (`step`) both use these definitions. See docs/CHIP.md, "What a script means".
 use Rattle.std.specs.Prelude.{ℕ, Bool, true, false, List, [], ◌∷◌, ◌++◌}
 use Rattle.access.specs.declared.Access.{Access}
-use Rattle.access.specs.declared.Answer.{Answer}
+use Rattle.access.specs.Status.{Answer}
 use Rattle.device.specs.Device.{outputs_of}
 use Rattle.device.specs.Event.{apply_event, tick_event}
-use Rattle.device.specs.Dispatch.{device_access}
+use Rattle.device.specs.Dispatch.{AccessResult, device_access}
 use Rattle.device.specs.declared.Device.{Device}
 use Rattle.device.specs.declared.Outputs.{Outputs}
-use Rattle.device.specs.declared.AccessResult.{AccessResult}
 use Rattle.log_entry.specs.Entry.{log_entry}
 use Rattle.mask.specs.Mask.{has_bit}
 

@@ -1,17 +1,21 @@
 -- `run_answer` and `log_after` at the two returns of `run`: after a refusal, and after `run_words`.
 use Prim.Native.Nat.{ℕ, ◌%◌, ◌≤◌}
-use mathlib.Core.Path.{◌≡◌, refl, ap, sym, ◌∙◌}
+use mathlib.Core.Path.{◌≡◌, refl, ap, ◌∙◌}
 use mathlib.Core.Bool.{Bool, true, false, cond, not, ◌&&◌}
 use mathlib.Core.List.{List}
 use native.Mathlib.Omega.{arith}
-use borrow.Author.Tests.{eq-eqb, ltb-false, ne_eqb, not-false}
+use borrow.Author.Tests.{ltb-false, ne_eqb, not-false}
 use lib.Dec.{eqb}
 use lib.ListN.{length}
 use Rattle.device.specs.Device.{device_in_range}
 use Rattle.device.specs.declared.Device.{Device}
 use Rattle.mask.proofs.Every.{and_left, and_right}
-use Rattle.outcome.specs.Refusal.{refusal}
+use Rattle.outcome.proofs.Numbers.{refusal_number_above}
+use Rattle.outcome.specs.Refusal.{Refusal, refusal}
+use Rattle.outcome.specs.Refused.{refusal_number, refusal_of}
+use Rattle.outcome.specs.declared.Refused.{Refused}
 use Rattle.sequencer.specs.Ends.{EndsAs}
+use Rattle.sequencer.specs.Ran.{run_of}
 use Rattle.sequencer.specs.Run.{
   bad_image,
   bad_state,
@@ -24,37 +28,29 @@ use Rattle.sequencer.specs.Run.{
 }
 use Rattle.step.specs.Sequencer.{sequencer_in_range}
 use Rattle.step.specs.Word.{image_words}
-use Rattle.sequencer.specs.declared.RunResult.{RunResult}
-use Rattle.outcome.specs.declared.Refusal.{Refusal}
+use Rattle.sequencer.specs.declared.RunResult as code
 use Rattle.step.specs.declared.Sequencer.{Sequencer}
 use Rattle.step.proofs.Faults.{or_right}
 
 -- a refusal is the answer, and the log is unchanged
 pub refused :
-    (image : List ℕ) (d : Device) (s : Sequencer) (events : List ℕ) (budget : ℕ) (log : List ℕ) (f : Refusal)
-    → f ≡ run_refusal image d s events → (f.number ≡ 0 → ⊥)
-    → (refused_run (refusal f.number f.place) d s ≡ run_answer image d s events budget log)
-    × (log ≡ log_after image d s events budget log)
+    (image : List ℕ) (d : Device) (s : Sequencer) (events : List ℕ) (budget : ℕ) (log : List ℕ) (f : Refused)
+    → refusal_of f ≡ run_refusal image d s events
+    → (refused_run (refusal_of f) d s ≡ run_answer image d s events budget log) × (log ≡ log_after image d s events budget log)
 unfolding run_answer log_after
-refused image d s events budget log f e n =
-    let k = ne_eqb (run_refusal image d s events).number 0 (λ z. n (ap (λ (x : Refusal). x.number) e ∙ z)) in
-    (rw (e, k), rw k)
-
-pub not_refused :
-    (image : List ℕ) (d : Device) (s : Sequencer) (events : List ℕ) (f : Refusal)
-    → f ≡ run_refusal image d s events → f.number ≡ 0 → (run_refusal image d s events).number ≡ 0
-not_refused image d s events f e z = sym (ap (λ (x : Refusal). x.number) e) ∙ z
+refused image d s events budget log f e =
+    let n : refusal_number f.kind ≡ (run_refusal image d s events).number = ap (λ (x : Refusal). x.number) e in
+    let k = ne_eqb (run_refusal image d s events).number 0 (λ z. refusal_number_above f.kind (n ∙ z)) in
+    (rw k (ap (λ (x : Refusal). refused_run x d s) e), rw k)
 
 -- without a refusal, the end of `run_words` is the answer
 pub done :
-    (image : List ℕ) (d : Device) (s : Sequencer) (events : List ℕ) (budget : ℕ) (log log' : List ℕ) (r : RunResult)
+    (image : List ℕ) (d : Device) (s : Sequencer) (events : List ℕ) (budget : ℕ) (log log' : List ℕ) (r : code.RunResult)
     → (run_refusal image d s events).number ≡ 0
     → EndsAs events log log' r (image_run image d s events budget (length log))
-    → (r ≡ run_answer image d s events budget log) × (log' ≡ log_after image d s events budget log)
+    → (run_of r ≡ run_answer image d s events budget log) × (log' ≡ log_after image d s events budget log)
 unfolding run_answer log_after
-done image d s events budget log log' r z h =
-    let k = eq-eqb (run_refusal image d s events).number 0 z in
-    (rw k h.answered, rw k h.lines)
+done image d s events budget log log' r z h = (rw z h.answered, rw z h.lines)
 
 -- what holds at the start of a run that is not refused
 pub record Allowed (image : List ℕ) (d : Device) (s : Sequencer) (events : List ℕ) : Type 0 where

@@ -30,7 +30,7 @@ use Rattle.semantics.specs.World.{
   write_of,
   after_write,
 }
-use Rattle.sequencer.specs.Run.{RunEnd, run_result, follow, image_run, run_from, run_answer, run_refusal}
+use Rattle.sequencer.specs.Run.{RunEnd, RunResult, run_result, follow, image_run, run_from, run_answer, run_refusal}
 use Rattle.step.specs.Sequencer.{counters_of, sequencer_in_range}
 use Rattle.step.specs.Step.{
   Machine,
@@ -51,7 +51,6 @@ use Rattle.step.specs.Step.{
   word_fault,
 }
 use Rattle.step.specs.Word.{bad_word, image_words, word_at}
-use Rattle.sequencer.specs.declared.RunResult.{RunResult}
 use Rattle.step.specs.declared.Sequencer.{Sequencer}
 use Rattle.step.proofs.EachKind.{room_left_lem}
 use Rattle.step.proofs.Faults.{Clean, clean, enter_room, enter_value, read_room}

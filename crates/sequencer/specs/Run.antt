@@ -7,14 +7,11 @@ use Rattle.device.specs.declared.Device.{Device}
 use Rattle.record.specs.Record.{most_records, record_size}
 use Rattle.outcome.specs.Ending as ending
 use Rattle.outcome.specs.Number as number
-use Rattle.outcome.specs.Refusal.{refusal}
-use Rattle.outcome.specs.declared.Refusal.{Refusal}
+use Rattle.outcome.specs.Refusal.{Refusal, refusal}
 use Rattle.semantics.specs.World.{start_world}
 use Rattle.step.specs.Sequencer.{counters_of, sequencer_at, sequencer_in_range}
 use Rattle.step.specs.Step.{Machine, Step, faults, log_filled, continues, halts, machine, next_step}
 use Rattle.step.specs.Word.{image_words}
-use Rattle.sequencer.specs.declared.RunResult.{RunResult}
-use Rattle.outcome.specs.declared.Refusal.{Refusal}
 use Rattle.step.specs.declared.Sequencer.{Sequencer}
 
 -- the end of a run: the outcome, the number of steps, and the machine
@@ -69,6 +66,17 @@ run_refusal image d s events =
     cond (bad_image image) (refusal number.bad_image 0) (cond (bad_state d s) (refusal number.bad_state 0) (events_refusal events))
 
 -- ---- the call
+-- the answer of a run in the numbers of document 01: `outcome` is the ending or the number of a refusal, `place` the place of a refusal, 0 for an
+-- ending
+pub record RunResult : Type 0 where
+  pub outcome : ℕ
+  pub place : ℕ
+  pub steps : ℕ
+  pub taken : ℕ
+  pub logged : ℕ
+  pub sequencer : Sequencer
+  pub device : Device
+
 -- the run from the place and the counters of s: "A run may start from a stopped state."
 unfoldable pub image_run : List ℕ → Device → Sequencer → List ℕ → (budget room : ℕ) → RunEnd
 image_run image d s events budget room =

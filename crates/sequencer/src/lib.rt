@@ -2,35 +2,36 @@
 // `replay` call it. What one word does is in `step`. See docs/CHIP.md, "Runs", "Resuming a run" and "Refusals".
 #![tactic(auto)]
 
-ghost use Rattle.std.specs.Prelude.{◌≡◌, true, ◌+◌, ◌<◌, ◌≤◌, length};
-ghost use Rattle.step.specs.Sequencer.{sequencer_in_range, counters_of, counter_array};
+ghost use Rattle.std.specs.Prelude.{◌≡◌, true, ◌≤◌, IfErr, length};
+ghost use Rattle.outcome.specs.Refused.{refusal_in, refusal_of};
+ghost use Rattle.record.specs.Record.{most_records};
+ghost use Rattle.sequencer.specs.Ends.{Starts, EndsAs, answer};
+ghost use Rattle.sequencer.specs.Ran.{ran};
 ghost use Rattle.sequencer.specs.Run.{
-  is_refusal,
   bad_image,
   bad_state,
   events_refusal,
-  run_refusal,
-  run_answer,
-  log_after,
   image_run,
+  log_after,
+  run_answer,
+  run_refusal,
 };
-ghost use Rattle.record.specs.Record.{most_records};
-ghost use Rattle.step.specs.Word.{image_words};
 ghost use Rattle.step.specs.Represents.{run_state};
-ghost use Rattle.sequencer.specs.Ends.{Starts, EndsAs, answer};
+ghost use Rattle.step.specs.Sequencer.{sequencer_in_range};
+ghost use Rattle.step.specs.Word.{image_words};
 
-use access::Answer;
+use access::{Answer, Status};
 use device::{AccessResult, Device};
-use outcome::Refusal;
-use record::{Record, word_kind};
+use outcome::{Ending, RefusalKind, Refused};
+use record::Record;
+use record::word_kind::WordKind;
 use step::execute::Position;
 use step::{COUNTERS, Sequencer, execute, word};
 
-// The answer of a run. `outcome` is the ending or the number of a refusal, `place` the place of a refusal, 0 for an ending.
+// The answer of a run that is not refused.
 #[derive(Clone, Copy)]
 pub struct RunResult {
-    pub outcome: u32,
-    pub place: u32,
+    pub ending: Ending,
     pub steps: u32,
     pub taken: usize,
     pub logged: usize,
@@ -43,80 +44,65 @@ const MOST_EVENTS: usize = 4096;
 // The place of refusal 12 for a list with more events.
 const TOO_MANY_EVENTS_PLACE: u32 = MOST_EVENTS as u32;
 
-// Whether an outcome is the number of a refusal, and not an ending.
-pub fn is_refusal(outcome: u32) -> bool
-    ensures { result ≡ is_refusal outcome }
-{
-    if outcome == outcome::HALTED {
-        return false;
-    }
-    outcome < outcome::BUDGET_SPENT
-}
-
 // ---- refusals
 
 // Refusal 10. `runnelopal` calls it too.
 pub fn bad_image(image: &[u8]) -> bool
     ensures { result ≡ bad_image image.now }
 {
-    if image.len() == 0 {
-        return true;
-    }
-    if image.len() % Record::SIZE != 0 {
-        return true;
-    }
-    Record::MOST < image.len() / Record::SIZE
+    image.is_empty() || image.len() % Record::SIZE != 0 || Record::MOST < image.len() / Record::SIZE
 }
 
 fn bad_state(device: Device, sequencer: Sequencer) -> bool
     ensures { result ≡ bad_state device sequencer }
 {
-    if device.in_range() {
-        return !sequencer.in_range();
-    }
-    true
+    !(device.in_range() && sequencer.in_range())
 }
 
 // Refusal 12. `interpreter` calls it too.
-pub fn events_refusal(events: &[u32]) -> Refusal
-    ensures { result ≡ events_refusal events.now }
+#[tactic(auto, unfolding(crate::specs::Run::events_refusal))]
+pub fn events_refusal(events: &[u32]) -> Result<(), Refused>
+    ensures { refusal_in result ≡ events_refusal events.now }
 {
+    let kind = RefusalKind::BadEvent;
     if MOST_EVENTS < events.len() {
-        return Refusal {
-            number: outcome::BAD_EVENT,
+        return Err(Refused {
+            kind,
             place: TOO_MANY_EVENTS_PLACE,
-        };
+        });
     }
-    let mut k: usize = 0;
-    while k < events.len() {
-        if !device::event::is_event(events[k]) {
-            return Refusal {
-                number: outcome::BAD_EVENT,
-                place: k as u32,
-            };
-        }
-        k = k + 1;
-    }
-    Refusal {
-        number: 0,
-        place: 0,
+    match events
+        .iter()
+        .position(|event| !device::event::is_event(*event))
+    {
+        Some(place) => Err(Refused {
+            kind,
+            place: place as u32,
+        }),
+        None => Ok(()),
     }
 }
 
-fn run_refusal(image: &[u8], device: Device, sequencer: Sequencer, events: &[u32]) -> Refusal
-    ensures { result ≡ run_refusal image.now device sequencer events.now }
+#[tactic(auto, unfolding(crate::specs::Run::run_refusal))]
+fn run_refusal(
+    image: &[u8],
+    device: Device,
+    sequencer: Sequencer,
+    events: &[u32],
+) -> Result<(), Refused>
+    ensures { refusal_in result ≡ run_refusal image.now device sequencer events.now }
 {
     if bad_image(image) {
-        return Refusal {
-            number: outcome::BAD_IMAGE,
+        return Err(Refused {
+            kind: RefusalKind::BadImage,
             place: 0,
-        };
+        });
     }
     if bad_state(device, sequencer) {
-        return Refusal {
-            number: outcome::BAD_STATE,
+        return Err(Refused {
+            kind: RefusalKind::BadState,
             place: 0,
-        };
+        });
     }
     events_refusal(events)
 }
@@ -136,25 +122,14 @@ fn start(sequencer: Sequencer) -> Position
     }
 }
 
-// A copy of the counters. The run changes the copy.
-fn counters_of(sequencer: Sequencer) -> [u32; COUNTERS]
-    requires { sequencer_in_range sequencer ≡ true }
-    ensures { result ≡ counter_array (counters_of sequencer) }
-{
-    let given = sequencer.counters;
-    [
-        given[0], given[1], given[2], given[3], given[4], given[5], given[6], given[7],
-    ]
-}
-
 fn run_result(
-    outcome: u32,
+    ending: Ending,
     steps: u32,
     device: Device,
     position: Position,
     counters: [u32; COUNTERS],
 ) -> RunResult
-    ensures { result ≡ answer outcome steps (run_state device position counters) }
+    ensures { result ≡ answer ending steps (run_state device position counters) }
 {
     let sequencer = Sequencer {
         place: position.place,
@@ -162,8 +137,7 @@ fn run_result(
         used: position.used,
     };
     RunResult {
-        outcome,
-        place: 0,
+        ending,
         steps,
         taken: position.taken,
         logged: position.logged,
@@ -172,22 +146,9 @@ fn run_result(
     }
 }
 
-fn index(place: u32) -> usize
-    ensures { result ≡ place }
-{
-    place as usize
-}
-
-// Counts one executed word.
-fn count_step(steps: u32) -> u32
-    requires { steps < 4294967295 }
-    ensures { result ≡ steps + 1 }
-{
-    steps + 1
-}
-
 // Runs the words of an image until the run ends. The device and the answer to its last access are one local, `last`, and a delay or an event
-// stores the device in one statement, so that each of them copies the device only once.
+// stores the device in one statement, so that each of them copies the device only once. `walk_script` has the same arm for an access: each
+// loop stores the device in a local of its own.
 fn run_words(
     image: &[u8],
     device: Device,
@@ -202,61 +163,64 @@ fn run_words(
     let words = (image.len() / Record::SIZE) as u32;
     let mut last = AccessResult {
         device,
-        owner: Device::NOBODY,
-        answer: Answer::status_only(Answer::DONE),
+        owner: None,
+        answer: Answer::status_only(Status::Done),
     };
     let mut position = start(sequencer);
-    let mut counters = counters_of(sequencer);
-    let mut steps: u32 = 0;
-    while steps < budget {
+    let mut counters = sequencer.counters;
+    for steps in 0..budget {
         if words <= position.place {
             return run_result(
-                outcome::BEYOND_LAST_WORD,
+                Ending::BeyondLastWord,
                 steps,
                 last.device,
                 position,
                 counters,
             );
         }
-        let word = record::read(image, Record::SIZE * index(position.place));
-        let fault = word::fault(words, log.len(), position.used, position.logged, word);
-        if fault != 0 {
-            return run_result(fault, steps, last.device, position, counters);
-        }
-        if word.kind == word_kind::HALT {
-            return run_result(outcome::HALTED, steps + 1, last.device, position, counters);
-        }
-        if word::is_control(word) {
-            let next = position.execute_control(word, &mut counters);
-            position.used = next.used;
-            position.place = next.place;
-            steps = count_step(steps);
-        } else if word.kind == word_kind::DELAY {
-            last.device = last
-                .device
-                .apply_event(device::event::tick_event(word.value));
-            position.place = position.place + 1;
-            steps = count_step(steps);
-        } else {
-            // The next event, if there is one, is applied before the access.
-            let taken = position.taken;
-            if taken < events.len() {
-                last.device = last.device.apply_event(events[taken]);
+        let word = record::read(image, Record::SIZE * position.place as usize);
+        let kind = match word::fault(words, log.len(), position.used, position.logged, word) {
+            Ok(kind) => kind,
+            Err(fault) => return run_result(fault, steps, last.device, position, counters),
+        };
+        match kind {
+            WordKind::Halt => {
+                return run_result(Ending::Halted, steps + 1, last.device, position, counters);
             }
-            last = last.device.access(execute::access_of(word));
-            position = position.apply_answer(word, last.owner, last.answer.value, events, log);
-            steps = count_step(steps);
+            WordKind::Enter | WordKind::LoopEnd | WordKind::Jump => {
+                let next = position.execute_control(kind, word, &mut counters);
+                position.used = next.used;
+                position.place = next.place;
+            }
+            WordKind::Delay => {
+                last.device = last
+                    .device
+                    .apply_event(device::event::tick_event(word.value));
+                position.place += 1;
+            }
+            WordKind::Write | WordKind::Read | WordKind::Test => {
+                // The next event, if there is one, is applied before the access.
+                let taken = position.taken;
+                if taken < events.len() {
+                    last.device = last.device.apply_event(events[taken]);
+                }
+                last = last.device.access(execute::access_of(word));
+                position = position.apply_answer(
+                    kind,
+                    word.value,
+                    word.target,
+                    last.owner,
+                    last.answer.value,
+                    events,
+                    log,
+                );
+            }
         }
     }
-    run_result(
-        outcome::BUDGET_SPENT,
-        steps,
-        last.device,
-        position,
-        counters,
-    )
+    run_result(Ending::BudgetSpent, budget, last.device, position, counters)
 }
 
+// The parameters stay single: the contracts of `run` and the exported call name each.
 // Runs an image, starting at the place and with the counters of `sequencer`. A run with budget 1 is a single step.
 pub fn run(
     image: &[u8],
@@ -265,20 +229,10 @@ pub fn run(
     events: &[u32],
     budget: u32,
     log: &mut [u64],
-) -> RunResult
-    ensures { (result ≡ run_answer image.now device sequencer events.now budget log.old) × (log.new ≡ log_after image.now device sequencer events.now budget log.old) }
+) -> Result<RunResult, Refused>
+    ensures value { (ran device sequencer result ≡ run_answer image.now device sequencer events.now budget log.old) × (log.new ≡ log_after image.now device sequencer events.now budget log.old) }
+    ensures refused { IfErr result (λ refused. refusal_of refused ≡ run_refusal image.now device sequencer events.now) }
 {
-    let refusal = run_refusal(image, device, sequencer, events);
-    if refusal.number != 0 {
-        return RunResult {
-            outcome: refusal.number,
-            place: refusal.place,
-            steps: 0,
-            taken: 0,
-            logged: 0,
-            sequencer,
-            device,
-        };
-    }
-    run_words(image, device, sequencer, events, budget, log)
+    run_refusal(image, device, sequencer, events)?;
+    Ok(run_words(image, device, sequencer, events, budget, log))
 }

@@ -10,7 +10,7 @@ use Rattle.little_endian.specs.Bytes.{byte0, byte1, byte2, byte3, four}
 use Rattle.outcome.specs.Refusal.{refusal}
 use Rattle.step.specs.declared.Sequencer.{Sequencer}
 use Rattle.sequencer_state.specs.State.{loaded, sequencer_bytes, sequencer_from, sequencer_size}
-use Rattle.sequencer_state.specs.declared.LoadResult.{LoadResult}
+use Rattle.sequencer_state.specs.State.{LoadResult}
 
 -- each field fits four bytes, and there are eight counters. The types of the code ensure this, except for `used`, which is at most 8 in a valid
 -- sequencer

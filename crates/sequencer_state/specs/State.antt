@@ -1,13 +1,13 @@
 -- A saved sequencer: the place, the number of counters in use and the eight counters, four bytes each, "least byte first"; and the way back. See
 -- docs/STATE.md, "A saved sequencer".
-use Rattle.std.specs.Prelude.{ℕ, zero, suc, ◌+◌, Bool, cond, List, [], ◌∷◌, ◌++◌, eqb, get_or, length}
+use Rattle.std.specs.Prelude.{ℕ, zero, suc, ◌+◌, Bool, cond, List, [], ◌∷◌, ◌++◌, Result, Ok, Err, eqb, get_or, length}
 use Rattle.little_endian.specs.Bytes.{four_at, four_bytes}
 use Rattle.outcome.specs.Number as number
-use Rattle.outcome.specs.Refusal.{refusal}
-use Rattle.outcome.specs.declared.Refusal.{Refusal}
+use Rattle.outcome.specs.Refusal.{Refusal, refusal}
+use Rattle.outcome.specs.Refused.{refusal_of}
+use Rattle.outcome.specs.declared.Refused.{Refused}
 use Rattle.step.specs.Sequencer.{counter_count, fresh_sequencer}
 use Rattle.step.specs.declared.Sequencer.{Sequencer}
-use Rattle.sequencer_state.specs.declared.LoadResult.{LoadResult}
 
 abbrev pub sequencer_size : ℕ
 sequencer_size = 40
@@ -41,7 +41,11 @@ save_refusal bytes = cond (eqb (length bytes) sequencer_size) (refusal 0 0) (ref
 abbrev pub holds_sequencer : List ℕ → Bool
 holds_sequencer bytes = eqb (length bytes) sequencer_size
 
--- after a refusal the sequencer is one that no caller can get, because the fields are private
+pub record LoadResult : Type 0 where
+  pub refusal : Refusal
+  pub sequencer : Sequencer
+
+-- after a refusal the sequencer is one that no caller can get
 unfoldable pub loaded : List ℕ → LoadResult
 loaded bytes =
     cond (holds_sequencer bytes)
@@ -51,3 +55,8 @@ loaded bytes =
 -- the loaded sequencer, or another one after a refusal
 abbrev pub sequencer_or : LoadResult → Sequencer → Sequencer
 sequencer_or l otherwise = cond (eqb l.refusal.number 0) l.sequencer otherwise
+
+-- the result of the call `load` in these terms: number 0 and the sequencer, or the refusal
+abbrev pub load_of : Result Sequencer Refused → LoadResult
+load_of (Ok s) = record { refusal = refusal 0 0; sequencer = s }
+load_of (Err r) = record { refusal = refusal_of r; sequencer = fresh_sequencer }

@@ -32,7 +32,7 @@ use Rattle.state.specs.State.{
   state_bytes,
   state_size,
 }
-use Rattle.state.specs.declared.LoadResult.{LoadResult}
+use Rattle.state.specs.State.{LoadResult}
 
 -- the fields of every block fit their types
 pub record Typed (d : Device) : Type 0 where

@@ -1,9 +1,7 @@
 -- One access or one event on a saved device. See docs/CHIP.md, "Single calls".
 use Rattle.std.specs.Prelude.{ℕ, cond, List, eqb}
 use Rattle.access.specs.declared.Access.{Access}
-use Rattle.device.specs.Single.{access_refused, event_refused, single_access, single_event}
-use Rattle.device.specs.declared.single.AccessReply.{AccessReply}
-use Rattle.device.specs.declared.single.EventReply.{EventReply}
+use Rattle.device.specs.Single.{AccessReply, EventReply, access_refused, event_refused, single_access, single_event}
 use Rattle.outcome.specs.Number as number
 use Rattle.state.specs.State.{device_from, holds_device, state_bytes}
 

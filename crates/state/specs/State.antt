@@ -1,6 +1,6 @@
 -- A saved device: the bytes of the blocks, one block after the other, and the way back. Each block defines its own bytes, in
 -- `specs/Saved.antt` of its crate. See docs/STATE.md.
-use Rattle.std.specs.Prelude.{ℕ, ◌+◌, Bool, false, cond, List, [], ◌∷◌, ◌++◌, eqb, drop, length, take}
+use Rattle.std.specs.Prelude.{ℕ, ◌+◌, Bool, false, cond, List, [], ◌∷◌, ◌++◌, Result, Ok, Err, eqb, drop, length, take}
 use Rattle.acpi.specs.Saved.{acpi_bytes, acpi_from, acpi_saved, acpi_size}
 use Rattle.config.specs.Saved.{config_bytes, config_from, config_saved, config_size}
 use Rattle.device.specs.Device.{fresh_device}
@@ -9,9 +9,9 @@ use Rattle.key.specs.Saved.{key_bytes, key_from, key_size}
 use Rattle.lists.specs.Tests.{all_hold}
 use Rattle.monitor.specs.Saved.{monitor_bytes, monitor_from, monitor_saved, monitor_size}
 use Rattle.outcome.specs.Number as number
-use Rattle.outcome.specs.Refusal.{refusal}
-use Rattle.outcome.specs.declared.Refusal.{Refusal}
-use Rattle.state.specs.declared.LoadResult.{LoadResult}
+use Rattle.outcome.specs.Refusal.{Refusal, refusal}
+use Rattle.outcome.specs.Refused.{refusal_of}
+use Rattle.outcome.specs.declared.Refused.{Refused}
 
 -- ---- where each block's bytes start, and how many there are in all
 abbrev pub key_start : ℕ
@@ -62,7 +62,11 @@ save_refusal bytes = cond (eqb (length bytes) state_size) (refusal 0 0) (refusal
 unfoldable pub holds_device : List ℕ → Bool
 holds_device bytes = cond (eqb (length bytes) state_size) (is_saved bytes) false
 
--- after a refusal the device is one that no caller can get, because the fields are private
+pub record LoadResult : Type 0 where
+  pub refusal : Refusal
+  pub device : Device
+
+-- after a refusal the device is one that no caller can get
 unfoldable pub loaded : List ℕ → LoadResult
 loaded bytes =
     cond (holds_device bytes)
@@ -72,3 +76,8 @@ loaded bytes =
 -- the loaded device, or another one after a refusal
 abbrev pub device_or : LoadResult → Device → Device
 device_or l otherwise = cond (eqb l.refusal.number 0) l.device otherwise
+
+-- the result of the call `load` in these terms: number 0 and the device, or the refusal
+abbrev pub load_of : Result Device Refused → LoadResult
+load_of (Ok d) = record { refusal = refusal 0 0; device = d }
+load_of (Err r) = record { refusal = refusal_of r; device = fresh_device }

@@ -1,9 +1,11 @@
 // Saves a device as 106 bytes, block after block, and loads it again. `runnelopal` and `replay` use it. See docs/STATE.md.
+// `sequencer_state` has the same functions for the sequencer, and each block has its own `to_bytes`. A trait for them would return an array whose
+// length is computed from the type, which this project does not use.
 #![tactic(auto)]
 
 pub mod call;
 
-ghost use Rattle.std.specs.Prelude.{◌≡◌, length};
+ghost use Rattle.std.specs.Prelude.{◌≡◌, false, true, length, IfOk, OnErr};
 ghost use Rattle.state.specs.State.{
   state_bytes,
   state_size,
@@ -13,15 +15,16 @@ ghost use Rattle.state.specs.State.{
   save_refusal,
   saved,
   loaded,
-  device_or,
+  load_of,
 };
+ghost use Rattle.outcome.specs.Refused.{refusal_in};
 
 use acpi::Acpi;
 use config::Config;
 use device::Device;
 use key::Key;
 use monitor::Monitor;
-use outcome::Refusal;
+use outcome::{RefusalKind, Refused};
 
 // Where the bytes of each block start, and the length of a saved state.
 const KEY_START: usize = Config::SIZE;
@@ -32,42 +35,21 @@ const ACPI_START: usize = MONITOR_START + Monitor::SIZE;
 
 pub const SIZE: usize = ACPI_START + Acpi::SIZE;
 
-// What `load` returns. Both fields are private: a caller gets a device from `device_or` only, and has to name the device that stays in use
-// after a refusal.
-#[derive(Clone, Copy)]
-pub struct LoadResult {
-    refusal: Refusal,
-    device: Device,
-}
+// Bytes that hold no device, and a slice of another length, are refused with 11 at place 0.
+const NO_DEVICE: Refused = Refused {
+    kind: RefusalKind::BadState,
+    place: 0,
+};
 
-impl LoadResult {
-    // Number 0, or 11 at place 0.
-    pub fn refusal(self) -> Refusal
-        ensures { result ≡ self.refusal }
-    {
-        self.refusal
-    }
-
-    // The loaded device, or `otherwise` after a refusal.
-    pub fn device_or(self, otherwise: Device) -> Device
-        ensures { result ≡ device_or self otherwise }
-    {
-        let refusal = self.refusal;
-        if refusal.number == 0 {
-            return self.device;
-        }
-        otherwise
-    }
-}
-
+#[tactic(auto, unfolding(crate::specs::State::state_bytes))]
 pub fn bytes_of(device: Device) -> [u8; SIZE]
     ensures { result ≡ state_bytes device }
 {
     let mut bytes = [0u8; SIZE];
-    lists::put(&mut bytes, 0, &device.config.to_bytes());
-    lists::put(&mut bytes, KEY_START, &device.key.to_bytes());
-    lists::put(&mut bytes, MONITOR_START, &device.monitor.to_bytes());
-    lists::put(&mut bytes, ACPI_START, &device.acpi.to_bytes());
+    bytes[..KEY_START].copy_from_slice(&device.config.to_bytes());
+    bytes[KEY_START..MONITOR_START].copy_from_slice(&device.key.to_bytes());
+    bytes[MONITOR_START..ACPI_START].copy_from_slice(&device.monitor.to_bytes());
+    bytes[ACPI_START..].copy_from_slice(&device.acpi.to_bytes());
     bytes
 }
 
@@ -108,42 +90,29 @@ pub fn holds_device(bytes: &[u8]) -> bool
     is_saved(bytes)
 }
 
-// Writes the state into a slice of `SIZE` bytes. A slice of any other length is unchanged, and refused with 11 at place 0.
-pub fn save(device: Device, bytes: &mut [u8]) -> Refusal
-    ensures { (result ≡ save_refusal bytes.old) × (bytes.new ≡ saved device bytes.old) }
+// Writes the state into a slice of `SIZE` bytes. A slice of any other length is unchanged, and refused.
+#[tactic(auto, unfolding(crate::specs::State::saved))]
+pub fn save(device: Device, bytes: &mut [u8]) -> Result<(), Refused>
+    ensures refusal { refusal_in result ≡ save_refusal bytes.old }
+    ensures bytes { bytes.new ≡ saved device bytes.old }
 {
     if bytes.len() == SIZE {
-        lists::put(bytes, 0, &bytes_of(device));
-        return Refusal {
-            number: 0,
-            place: 0,
-        };
+        bytes.copy_from_slice(&bytes_of(device));
+        return Ok(());
     }
-    Refusal {
-        number: outcome::BAD_STATE,
-        place: 0,
-    }
+    Err(NO_DEVICE)
 }
 
-// Reads the state from a slice. Refuses a slice that is not `SIZE` bytes long, and bytes that no device can hold, with 11. A device that
-// is loaded may still be out of range; then the call that uses it is refused with 11.
-pub fn load(bytes: &[u8]) -> LoadResult
-    ensures { result ≡ loaded bytes.now }
+// Reads the state from a slice. Refuses a slice that is not `SIZE` bytes long, and bytes that no device can hold. A device that is loaded may
+// still be out of range; then the call that uses it is refused with 11.
+#[tactic(auto, unfolding(crate::specs::State::loaded))]
+pub fn load(bytes: &[u8]) -> Result<Device, Refused>
+    ensures value { load_of result ≡ loaded bytes.now }
+    ensures ok { IfOk result (λ d. (holds_device bytes.now ≡ true) × (d ≡ device_from bytes.now)) }
+    ensures err { OnErr result (holds_device bytes.now ≡ false) }
 {
-    if holds_device(bytes) {
-        return LoadResult {
-            refusal: Refusal {
-                number: 0,
-                place: 0,
-            },
-            device: read_from(bytes),
-        };
+    if !holds_device(bytes) {
+        return Err(NO_DEVICE);
     }
-    LoadResult {
-        refusal: Refusal {
-            number: outcome::BAD_STATE,
-            place: 0,
-        },
-        device: Device::fresh(),
-    }
+    Ok(read_from(bytes))
 }

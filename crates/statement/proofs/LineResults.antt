@@ -9,8 +9,7 @@ use lib.ListN.{length}
 use Rattle.lists.specs.Tests.{first_from}
 use Rattle.outcome.specs.Number as number
 use Rattle.record.specs.declared.Record.{Record}
-use Rattle.statement.specs.Line.{all_fit, content, fits_fields, found_in, is_empty, is_line, is_statement, line_fault, line_records, line_result, most_bytes, refused, result_of, statement_record, statement_result, word}
-use Rattle.statement.specs.declared.LineResult.{LineResult}
+use Rattle.statement.specs.Line.{LineResult, all_fit, content, fits_fields, found_in, is_empty, is_line, is_statement, line_fault, line_records, line_result, most_bytes, refused, result_of, statement_record, statement_result, word}
 
 pub long_line : (line : List ℕ) → most_bytes < length line → refused number.line_too_long ≡ line_result line
 unfolding line_result line_fault

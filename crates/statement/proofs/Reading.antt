@@ -1,58 +1,26 @@
 -- Laws of the definitions in Line.antt.
-use Prim.Native.Nat.{ℕ, zero, suc, ◌+◌, ◌-◌, ◌≤◌, ◌<◌}
+use Prim.Native.Nat.{ℕ, zero, suc, ◌-◌, ◌≤◌, ◌<◌}
 use mathlib.Core.Path.{◌≡◌, ap, refl, sym, ◌∙◌}
-use mathlib.Core.Bool.{Bool, true, false, cond, false≢true, not, ◌&&◌}
+use mathlib.Core.Bool.{Bool, true, false, cond, false≢true, not}
 use mathlib.Core.List.{List, [], ◌∷◌}
 use native.Mathlib.Omega.{arith}
-use borrow.Author.Tests.{eq-eqb, ne_eqb}
-use lib.Dec.{eqb}
-use lib.ListN.{drop, drop_of_length-le, get_or, length, take}
-use lib.Seq.{drop-cons, drop-drop, length-take-le, take-length}
-use Rattle.script.specs.Nested.{script_record}
-use Rattle.statement.specs.Line.{after_word, before_return, content, content_length, has_count, is_blank, is_empty, is_hex, is_number, last_byte, not_blank, not_semicolon, number_in, number_of, record_with, run, same_word, unindented, value_of, word}
-use Rattle.statement.proofs.Runs.{run_inside, run_most}
+use borrow.Author.Tests.{ltb-false, ltb-true, ne_eqb}
+use lib.Dec.{eqb, ltb}
+use lib.Pointwise.{pointwise}
+use lib.ListN.{drop, drop_of_length-le, get_or, length, length-drop, take}
+use lib.Seq.{drop-cons, length-take-le, take-length}
+use Rattle.statement.specs.Line.{after_word, before_return, capped, content, content_length, is_blank, is_empty, is_hex, is_number, last_byte, not_blank, not_semicolon, number_in, number_of, run, same_word, unindented, value_of, word}
+use Rattle.std.specs.Prelude.{None, Some, is_some, position}
+use Rattle.std.proofs.lemmas.List.{take_all}
+use Rattle.statement.specs.Found.{number_found}
+use Rattle.statement.proofs.Runs.{blank_position, run_most}
 
--- a negated test
-pub not_taken : (b : Bool) → not b ≡ true → b ≡ false
-not_taken true e = sym e
-not_taken false e = refl
-
-pub not_left : (b : Bool) → not b ≡ false → b ≡ true
-not_left true e = refl
-not_left false e = sym e
-
--- a text whose last byte is not 0 is not empty
-pub last_inside : (s : List ℕ) (b : ℕ) → 0 < b → last_byte s ≡ b → 1 ≤ length s
-last_inside [] b h e = absurd (omega (arith, e))
-last_inside (x ∷ xs) b h e = omega arith
-
--- ---- two words are the same byte by byte
-pub same_length : (a b : List ℕ) → same_word a b ≡ true → length a ≡ length b
-same_length [] [] e = refl
-same_length [] (y ∷ b) e = absurd (false≢true e)
-same_length (x ∷ a) [] e = absurd (false≢true e)
-same_length (x ∷ a) (y ∷ b) e = ap suc (same_length a b (second (eqb x y) (same_word a b) e))
-  where
-    second : (p q : Bool) → (p && q) ≡ true → q ≡ true
-    second true q f = f
-    second false q f = absurd (false≢true f)
-
-pub other_length : (a b : List ℕ) → (length a ≡ length b → ⊥) → same_word a b ≡ false
-other_length a b n = pick (same_word a b) refl
-  where
-    pick : (t : Bool) → same_word a b ≡ t → t ≡ false
-    pick true e = absurd (n (same_length a b e))
-    pick false e = refl
-
-module _ (a b : List ℕ) (k : ℕ) (l : length a ≡ length b) (h : k < length a) where
-  pub same_on : get_or a k 0 ≡ get_or b k 0 → same_word (drop k a) (drop k b) ≡ same_word (drop (suc k) a) (drop (suc k) b)
-  same_on e = rw (drop-cons a k 0 h, drop-cons b k 0 (omega (arith, l, h)), eq-eqb (get_or a k 0) (get_or b k 0) e)
-
-  pub same_stop : (get_or a k 0 ≡ get_or b k 0 → ⊥) → same_word (drop k a) (drop k b) ≡ false
-  same_stop n = rw (drop-cons a k 0 h, drop-cons b k 0 (omega (arith, l, h)), ne_eqb (get_or a k 0) (get_or b k 0) n)
-
-pub same_end : (a b : List ℕ) (k : ℕ) → length a ≡ length b → length a ≤ k → same_word (drop k a) (drop k b) ≡ true
-same_end a b k l h = rw (drop_of_length-le a {i = k} h, drop_of_length-le b {i = k} (omega (arith, l, h)))
+-- two words are the same byte by byte
+pub same_word_lem : (a b : List ℕ) → pointwise eqb a b ≡ same_word a b
+same_word_lem [] [] = refl
+same_word_lem [] (y ∷ b) = refl
+same_word_lem (x ∷ a) [] = refl
+same_word_lem (x ∷ a) (y ∷ b) = rw (same_word_lem a b)
 
 -- ---- numbers: the digits of a word, and their base
 pub hex_inside : (w : List ℕ) → is_hex w ≡ true → 1 ≤ length w
@@ -118,41 +86,7 @@ pub content_is : (line : List ℕ) (n : ℕ) → n ≡ content_length line → t
 unfolding content
 content_is line n e = rw e
 
--- ---- the fields of a record: a count is the value
-pub chosen_fields : (k a b c w p v : ℕ) (t : Bool) → t ≡ has_count k → w ≡ cond t 0 a → p ≡ cond t 0 b → v ≡ cond t a c
-    → script_record k w p v ≡ record_with k (a ∷ b ∷ c ∷ [])
-chosen_fields k a b c w p v t e f g h = rw (f, g, h, e) (pick (has_count k))
-  where
-    pick : (u : Bool) → script_record k (cond u 0 a) (cond u 0 b) (cond u a c) ≡ cond u (script_record k 0 0 a) (script_record k a b c)
-    pick true = refl
-    pick false = refl
-
--- ---- a word in a text: it starts at `from`, after blanks, and ends at `to`
-pub record WordIn (s : List ℕ) (at from to : ℕ) : Type 0 where
-  pub starts : at ≤ from
-  pub ordered : from ≤ to
-  pub inside : to ≤ length s
-  pub text : take (to - from) (drop from s) ≡ word (drop at s)
-  pub rest : drop to s ≡ after_word (drop at s)
-
-pub word_in : (s : List ℕ) (at from to : ℕ) → at ≤ length s → from ≡ at + run is_blank (drop at s) → to ≡ from + run not_blank (drop from s)
-    → WordIn s at from to
-unfolding word after_word
-word_in s at from to h e f =
-    let t = drop at s in
-    let u : drop from s ≡ unindented t = ap (λ (n : ℕ). drop n s) e ∙ sym (drop-drop (run is_blank t) at s) in
-    let i = run_inside is_blank s at h in
-    let j = run_inside not_blank s from (omega (arith, e, i)) in
-    let n : to - from ≡ run not_blank (drop from s) = omega (arith, f) in
-    record {
-      starts = omega (arith, e);
-      ordered = omega (arith, f);
-      inside = omega (arith, f, j);
-      text = rw (n, u);
-      rest = ap (λ (m : ℕ). drop m s) f ∙ sym (drop-drop (run not_blank (drop from s)) from s) ∙ rw u;
-    }
-
--- the word is empty exactly if only blanks are left
+-- ---- the word is empty exactly if only blanks are left
 first_kept : (s : List ℕ) (b : ℕ) (bs : List ℕ) → unindented s ≡ b ∷ bs → not_blank b ≡ true
 first_kept [] b bs e = absurd (let z : ◌≡◌ {A = ℕ} 0 1 = cc in omega arith)
 first_kept (x ∷ s) b bs e = pick (is_blank x) refl (first_kept s b bs) e
@@ -162,17 +96,69 @@ first_kept (x ∷ s) b bs e = pick (is_blank x) refl (first_kept s b bs) e
     pick true q next f = next f
     pick false q next f = let z : x ≡ b = cc in rw (← z, q)
 
-pub nothing_left : (s : List ℕ) (at from : ℕ) → from ≡ at + run is_blank (drop at s) → length s ≤ from → is_empty (word (drop at s)) ≡ true
+nothing_left : (s : List ℕ) → length s ≤ run is_blank s → is_empty (word s) ≡ true
 unfolding word
-nothing_left s at from e h =
-    let t = drop at s in
-    let u : unindented t ≡ [] = drop-drop (run is_blank t) at s ∙ sym (ap (λ (n : ℕ). drop n s) e) ∙ drop_of_length-le s {i = from} h in
-    rw u
+nothing_left s h = rw (drop_of_length-le s {i = run is_blank s} h)
 
-pub something_left : (s : List ℕ) (at from : ℕ) → from ≡ at + run is_blank (drop at s) → from < length s → is_empty (word (drop at s)) ≡ false
+something_left : (s : List ℕ) → run is_blank s < length s → is_empty (word s) ≡ false
 unfolding word
-something_left s at from e h =
-    let t = drop at s in
-    let u : unindented t ≡ get_or s from 0 ∷ drop (suc from) s =
-    drop-drop (run is_blank t) at s ∙ sym (ap (λ (n : ℕ). drop n s) e) ∙ drop-cons s from 0 h in
-    rw (u, first_kept t (get_or s from 0) (drop (suc from) s) u)
+something_left s h =
+    let n = run is_blank s in
+    let u : unindented s ≡ get_or s n 0 ∷ drop (suc n) s = drop-cons s n 0 h in
+    rw (u, first_kept s (get_or s n 0) (drop (suc n) s) u)
+
+pub blanks_only : (s : List ℕ) → is_some (position (λ b. not (is_blank b)) s) ≡ not (is_empty (word s))
+blanks_only s = rw (blank_position s) (pick (ltb (run is_blank s) (length s)) refl)
+  where
+    pick : (t : Bool) → ltb (run is_blank s) (length s) ≡ t → is_some (cond t (Some (run is_blank s)) None) ≡ not (is_empty (word s))
+    pick true e = rw (something_left s (ltb-true (run is_blank s) (length s) e))
+    pick false e = rw (nothing_left s (ltb-false (run is_blank s) (length s) e))
+
+pub word_left : (s : List ℕ) (t : Bool) → t ≡ is_some (position (λ b. not (is_blank b)) s) → t ≡ true → is_empty (word s) ≡ false
+word_left s t e f = pick (is_empty (word s)) (sym (blanks_only s) ∙ sym e ∙ f)
+  where
+    pick : (u : Bool) → not u ≡ true → u ≡ false
+    pick true g = sym g
+    pick false g = refl
+
+pub no_word_left : (s : List ℕ) (t : Bool) → t ≡ is_some (position (λ b. not (is_blank b)) s) → t ≡ false → is_empty (word s) ≡ true
+no_word_left s t e f = pick (is_empty (word s)) (sym (blanks_only s) ∙ sym e ∙ f)
+  where
+    pick : (u : Bool) → not u ≡ false → u ≡ true
+    pick true g = refl
+    pick false g = sym g
+
+-- ---- the first word and the rest
+pub whole_part : (s : List ℕ) (n : ℕ) → take (length s - n) (drop n s) ≡ drop n s
+whole_part s n = take_all (length s - n) (drop n s) (let l = length-drop n s in omega (arith, l))
+
+module _ (s : List ℕ) (from to : ℕ) (e : from ≡ run is_blank s) (f : to ≡ run not_blank (take (length s - from) (drop from s))) where
+  pub split_front : take to (take (length s - from) (drop from s)) ≡ word s
+  unfolding word
+  split_front = rw (f, whole_part s from, e)
+
+  pub split_back : drop to (take (length s - from) (drop from s)) ≡ after_word s
+  unfolding after_word
+  split_back = rw (f, whole_part s from, e)
+
+pub empty_is : (w : List ℕ) → eqb (length w) 0 ≡ is_empty w
+empty_is [] = refl
+empty_is (b ∷ bs) = ne_eqb (length (b ∷ bs)) 0 (λ e. omega (arith, e))
+
+-- ---- a word that was read as a number, or that is none
+pub number_is : (w : List ℕ) (v : ℕ) → Some v ≡ number_found (number_in w) → (is_number w ≡ true) × (v ≡ capped (value_of w))
+unfolding number_in
+number_is w v e = pick (is_number w) refl e
+  where
+    pick : (t : Bool) → is_number w ≡ t → Some v ≡ cond t (Some (cond t (capped (value_of w)) 0)) None
+        → (is_number w ≡ true) × (v ≡ capped (value_of w))
+    pick true p f = (p, cc)
+    pick false p f = cc
+
+pub no_number : (w : List ℕ) → None ≡ number_found (number_in w) → is_number w ≡ false
+unfolding number_in
+no_number w e = pick (is_number w) refl e
+  where
+    pick : (t : Bool) → is_number w ≡ t → None ≡ cond t (Some (cond t (capped (value_of w)) 0)) None → is_number w ≡ false
+    pick true p f = cc
+    pick false p f = p

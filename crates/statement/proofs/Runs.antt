@@ -1,13 +1,17 @@
 -- Laws of `run`: where it stops, and that it continues byte by byte. The loops that look for the end of a word or of a line use them.
 use Prim.Native.Nat.{ℕ, suc, ◌+◌, ◌≤◌, ◌<◌}
-use mathlib.Core.Path.{◌≡◌, ap, sym, ◌∙◌}
-use mathlib.Core.Bool.{Bool, true, false, cond}
+use mathlib.Core.Path.{◌≡◌, ap, refl, ◌∙◌}
+use mathlib.Core.Bool.{Bool, true, false, cond, not}
 use mathlib.Core.List.{List, [], ◌∷◌}
-use native.Mathlib.Numerals.{add-one}
+use native.Mathlib.Numerals.{one-add}
+use borrow.Author.Tests.{ltb-false}
+use lib.Dec.{ltb}
 use native.Mathlib.Omega.{arith}
-use lib.ListN.{drop, drop_of_length-le, get_or, length, length-drop}
+use lib.ListN.{drop, get_or, length, length-drop}
 use lib.Seq.{drop-cons}
-use Rattle.statement.specs.Line.{run}
+use Rattle.std.specs.Prelude.{None, Some, position, unwrap_or}
+use Rattle.std.specs.List.{prefix_len}
+use Rattle.statement.specs.Line.{is_blank, not_blank, run}
 
 pub run_most : (p : ℕ → Bool) (s : List ℕ) → run p s ≤ length s
 run_most p [] = omega arith
@@ -17,15 +21,37 @@ run_most p (b ∷ bs) = pick (run_most p bs) (p b)
     pick m true = omega arith
     pick m false = omega arith
 
+-- the code finds the end of a run by `position`, with the negated test
+module _ (p q : ℕ → Bool) (negated : (b : ℕ) → not (q b) ≡ p b) where
+  prefix_run : (s : List ℕ) → prefix_len (λ b. not (q b)) s ≡ run p s
+  prefix_run [] = refl
+  prefix_run (b ∷ bs) = rw (negated b, prefix_run bs, one-add)
+
+  pub position_run : (s : List ℕ) → unwrap_or (position q s) (length s) ≡ run p s
+  position_run s = rw (prefix_run s) (pick (ltb (run p s) (length s)) refl)
+    where
+      pick : (t : Bool) → ltb (run p s) (length s) ≡ t → unwrap_or (cond t (Some (run p s)) None) (length s) ≡ run p s
+      pick true e = refl
+      pick false e = let l = ltb-false (run p s) (length s) e in let m = run_most p s in let r : length s ≡ run p s = omega (arith, l, m) in r
+
+  pub position_is : (s : List ℕ) → position q s ≡ cond (ltb (run p s) (length s)) (Some (run p s)) None
+  position_is s = rw (prefix_run s)
+
+not_not : (b : Bool) → not (not b) ≡ b
+not_not true = refl
+not_not false = refl
+
+pub blank_run : (s : List ℕ) → unwrap_or (position (λ b. not (is_blank b)) s) (length s) ≡ run is_blank s
+blank_run = position_run is_blank (λ b. not (is_blank b)) (λ b. not_not (is_blank b))
+
+pub blank_position : (s : List ℕ)
+    → position (λ b. not (is_blank b)) s ≡ cond (ltb (run is_blank s) (length s)) (Some (run is_blank s)) None
+blank_position = position_is is_blank (λ b. not (is_blank b)) (λ b. not_not (is_blank b))
+
+pub word_run : (s : List ℕ) → unwrap_or (position is_blank s) (length s) ≡ run not_blank s
+word_run = position_run not_blank is_blank (λ b. refl)
+
 module _ (p : ℕ → Bool) (s : List ℕ) where
-  -- at the end of the text
-  pub run_end_lem : (k : ℕ) → length s ≤ k → run p (drop k s) ≡ 0
-  run_end_lem k h = ap (run p) (drop_of_length-le s h)
-
-  -- at a byte that fails the test
-  pub run_stop : (k : ℕ) → k < length s → p (get_or s k 0) ≡ false → run p (drop k s) ≡ 0
-  run_stop k h e = rw (drop-cons s k 0 h, e)
-
   -- at a byte that passes it
   pub run_on : (k : ℕ) → k < length s → p (get_or s k 0) ≡ true → run p (drop k s) ≡ suc (run p (drop (suc k) s))
   run_on k h e = ap (run p) (drop-cons s k 0 h) ∙ rw e
@@ -33,24 +59,3 @@ module _ (p : ℕ → Bool) (s : List ℕ) where
   -- a run does not leave the text
   pub run_inside : (k : ℕ) → k ≤ length s → k + run p (drop k s) ≤ length s
   run_inside k h = let m = run_most p (drop k s) in let l = length-drop k s in omega (arith, m, l)
-
-  -- the invariant of a loop that looks for the end of the run at `at`
-  abbrev pub Scanning : (at k : ℕ) → Type 0
-  Scanning at k = (k ≤ length s) × (k + run p (drop k s) ≡ at + run p (drop at s))
-
-  pub scan_on : (at k : ℕ) → Scanning at k → k < length s → p (get_or s k 0) ≡ true → Scanning at (k + 1)
-  scan_on at k i h e =
-      let more = run_on k h e in
-      (omega (arith, h), rw (add-one k) (let n : suc k + run p (drop (suc k) s) ≡ k + suc (run p (drop (suc k) s)) = omega arith in n ∙ ap (λ (m : ℕ). k + m) (sym more) ∙ i.1))
-
-  pub scan_stop : (at k : ℕ) → Scanning at k → k < length s → p (get_or s k 0) ≡ false → k ≡ at + run p (drop at s)
-  scan_stop at k i h e =
-      let z = run_stop k h e in
-      let n : k ≡ k + run p (drop k s) = omega (arith, z) in
-      n ∙ i.1
-
-  pub scan_end : (at k : ℕ) → Scanning at k → length s ≤ k → k ≡ at + run p (drop at s)
-  scan_end at k i h =
-      let z = run_end_lem k h in
-      let n : k ≡ k + run p (drop k s) = omega (arith, z) in
-      n ∙ i.1

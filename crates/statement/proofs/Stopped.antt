@@ -2,16 +2,18 @@
 use Prim.Native.Nat.{ℕ, zero, suc, ◌+◌, ◌*◌, ◌≤◌, ◌<◌}
 use mathlib.Core.Path.{◌≡◌, ap, refl, sym, ◌∙◌}
 use mathlib.Core.Logic.{◌⊎◌, inl, inr}
-use mathlib.Core.Bool.{Bool, true, false, cond, ◌&&◌}
+use mathlib.Core.Bool.{Bool, true, false, cond, false≢true, ◌&&◌}
 use mathlib.Core.List.{List, [], ◌∷◌}
 use native.Mathlib.Nat.{mul-suc}
 use native.Mathlib.Omega.{arith}
-use borrow.Author.Tests.{le-leb, leb-false, leb-true, lt-ltb, le-ltb}
+use borrow.Author.Tests.{eqb-true, le-leb, leb-false, leb-true, lt-ltb, le-ltb}
 use native.Mathlib.Numerals.{add-one}
-use lib.Dec.{leb, ltb}
+use lib.Dec.{eqb, leb, ltb}
 use lib.ListN.{drop, drop_of_length-le, get_or, length}
 use lib.Seq.{drop-cons}
+use Rattle.std.specs.Prelude.{None, Some}
 use Rattle.digits.specs.Read.{digit_of}
+use Rattle.statement.specs.Found.{number_found}
 use Rattle.statement.specs.Line.{all_digits, capped, number_if, number_of, too_big, value_after}
 
 module _ (n : ℕ) where
@@ -97,17 +99,21 @@ module _ (ds : List ℕ) (base value k : ℕ) (r : Reads ds base value k) where
       (sym r.all ∙ ap (all_digits base) e, sym (capped_small value r.small) ∙ sym (ap (λ (l : List ℕ). capped (value_after value base l)) e) ∙ r.whole)
 
 -- no number, because a digit is not one of the base
-pub not_number : (base : ℕ) (ds : List ℕ) → all_digits base ds ≡ false → record { ok = false; value = 0 } ≡ number_of base ds
+pub not_number : (base : ℕ) (ds : List ℕ) → all_digits base ds ≡ false → None ≡ number_found (number_of base ds)
 unfolding number_of
 not_number base ds e = rw e (pick (ltb 0 (length ds)))
   where
-    pick : (b : Bool) → record { ok = false; value = 0 } ≡ number_if (b && false) (value_after 0 base ds)
+    pick : (b : Bool) → None ≡ number_found (number_if (b && false) (value_after 0 base ds))
     pick true = refl
     pick false = refl
 
 -- the number of digits that all have the base; without digits there is none
-pub a_number : (base : ℕ) (ds : List ℕ) (value : ℕ) → all_digits base ds ≡ true → value ≡ capped (value_after 0 base ds)
-    → record { ok = ltb 0 (length ds); value = value } ≡ number_of base ds
+pub a_number : (base : ℕ) (ds : List ℕ) (value : ℕ) → eqb (length ds) 0 ≡ false → all_digits base ds ≡ true
+    → value ≡ capped (value_after 0 base ds) → Some value ≡ number_found (number_of base ds)
 unfolding number_of
-a_number base [] value e v = rw (v ∙ capped_small 0 (omega arith))
-a_number base (d ∷ ds) value e v = rw (e, v, lt-ltb 0 (length (d ∷ ds)) (omega arith))
+a_number base [] value h e v = absurd (false≢true (sym h))
+a_number base (d ∷ ds) value h e v = rw (e, v, lt-ltb 0 (length (d ∷ ds)) (omega arith))
+
+pub no_digits : (base : ℕ) (ds : List ℕ) → eqb (length ds) 0 ≡ true → None ≡ number_found (number_of base ds)
+unfolding number_of
+no_digits base ds h = rw (eqb-true (length ds) 0 h)

@@ -1,2 +1,3 @@
+pub mod Found
 pub mod Grammar
 pub mod Line

@@ -1,7 +1,7 @@
 -- How a line of a text script is read: its bytes up to the comment are split into words, and the first word says which numbers must follow. The
 -- contracts of src/lib.rt use these definitions. proofs/ shows that `is_line` holds for exactly the lines of the grammar (Grammar.antt), and that
 -- `line_records` gives their records.
-use Rattle.std.specs.Prelude.{ℕ, zero, suc, ◌+◌, ◌-◌, ◌*◌, ◌≤◌, ◌≡◌, Bool, true, false, cond, not, ◌&&◌, ◌||◌, List, [], ◌∷◌, eqb, leb, ltb, drop, get_or, length, take}
+use Rattle.std.specs.Prelude.{ℕ, zero, suc, ◌+◌, ◌-◌, ◌*◌, Bool, true, false, cond, not, ◌&&◌, ◌||◌, List, [], ◌∷◌, eqb, leb, ltb, drop, get_or, length, take}
 use Rattle.digits.specs.Read.{digit_of}
 use Rattle.lists.specs.Tests.{first_from}
 use Rattle.outcome.specs.Number as number
@@ -10,9 +10,6 @@ use Rattle.script.specs.Kind as kind
 use Rattle.script.specs.Nested.{script_record}
 use Rattle.script.specs.Refusals.{bad_fields}
 use Rattle.statement.specs.Grammar.{delay_word, else_word, end_word, if_word, read_word, repeat_word, write_word}
-use Rattle.statement.specs.declared.LineResult.{LineResult}
-use Rattle.statement.specs.declared.Number.{Number}
-use Rattle.statement.specs.declared.Operand.{Operand}
 
 -- ---- words
 
@@ -177,6 +174,11 @@ line_fault line =
 
 -- ---- results of the code
 
+-- a word that was read as a number
+pub record Number : Type 0 where
+  pub ok : Bool
+  pub value : ℕ
+
 -- a number stops at 2^32, which is too big for every field
 abbrev pub too_big : ℕ
 too_big = 0x1_0000_0000
@@ -195,18 +197,11 @@ number_of base ds = number_if (ltb 0 (length ds) && all_digits base ds) (value_a
 unfoldable pub number_in : List ℕ → Number
 number_in w = number_if (is_number w) (value_of w)
 
--- the number that is the first word of a text, if one is wanted there, otherwise 0
-unfoldable pub operand_number : Bool → List ℕ → Number
-operand_number wanted s = cond wanted (number_in (word s)) (number_if true 0)
-
-unfoldable pub after_operand : Bool → List ℕ → List ℕ
-after_operand wanted s = cond wanted (after_word s) s
-
-pub record OperandAt (s : List ℕ) (at : ℕ) (wanted : Bool) (o : Operand) : Type 0 where
-  pub ok : o.ok ≡ (operand_number wanted (drop at s)).ok
-  pub value : o.value ≡ (operand_number wanted (drop at s)).value
-  pub rest : drop o.next s ≡ after_operand wanted (drop at s)
-  pub inside : o.next ≤ length s
+-- what a line means: its fault, or the number of its statements, 0 or 1, and the record of its statement
+pub record LineResult : Type 0 where
+  pub fault : ℕ
+  pub statements : ℕ
+  pub found : Record
 
 abbrev pub no_record : Record
 no_record = record { mark = 0; kind = 0; width = 0; port = 0; target = 0; value = 0 }

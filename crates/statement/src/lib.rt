@@ -2,65 +2,43 @@
 // specs/Grammar.antt has the grammar, specs/Line.antt what these functions return.
 #![tactic(auto)]
 
-ghost use Rattle.std.specs.Prelude.{◌≡◌, true, cond, ◌+◌, ◌≤◌, ◌<◌, length, drop};
-ghost use Rattle.digits.specs.Read.{digit_of};
+ghost use Rattle.std.specs.Prelude.{◌≡◌, ◌≤◌, ◌<◌, length, not, position};
 ghost use Rattle.script.specs.Nested.{script_record};
 ghost use Rattle.statement.specs.Line.{
-  OperandAt,
+  after_word,
   before_return,
   capped,
   content_length,
-  fits_fields,
   has_count,
   is_blank,
   is_hex,
   kind_of,
-  last_byte,
   line_result,
-  no_record,
-  not_blank,
   not_semicolon,
   number_in,
   number_of,
   operand_count,
-  refused,
   result_of,
   run,
-  same_word,
   statement_result,
+  word,
 };
+ghost use Rattle.statement.specs.Found.{kind_found, line_read, number_found, operands_found, record_read};
+ghost use Rattle.script.specs.Kinds.{kind_number};
 
+use outcome::RefusalKind;
 use record::Record;
-
-// What a line means: its fault, or the number of its statements, 0 or 1, and the record of its statement.
-#[derive(Clone, Copy)]
-pub struct LineResult {
-    pub fault: u32,
-    pub statements: usize,
-    pub found: Record,
-}
-
-// A word that was read as a number. The value stops at `TOO_BIG`.
-#[derive(Clone, Copy)]
-pub struct Number {
-    pub ok: bool,
-    pub value: u64,
-}
-
-// A number that was read, and the index after its word.
-#[derive(Clone, Copy)]
-pub struct Operand {
-    pub ok: bool,
-    pub value: u64,
-    pub next: usize,
-}
+use script::kind::RecordKind;
 
 // The most bytes of a line.
 const MOST_BYTES: usize = 120;
 
+// The most numbers of a statement.
+const MOST_OPERANDS: usize = 3;
+
 const MOST_PORT: u64 = 0xFFFF;
 
-// This number is too big for every field.
+// This number is too big for every field. It is no error yet: refusal 31, for a word that is not in the grammar, comes first (`capped` in specs/Line.antt).
 const TOO_BIG: u64 = 0x1_0000_0000;
 
 const DECIMAL: u64 = 10;
@@ -72,63 +50,33 @@ const HEX: u64 = 16;
 fn is_blank(b: u8) -> bool
     ensures { result ≡ is_blank b }
 {
-    if b == b' ' {
-        return true;
-    }
-    b == b'\t'
+    b == b' ' || b == b'\t'
 }
 
-// The index of the first byte from `at` on that is not a blank.
-fn skip_blanks(s: &[u8], at: usize) -> usize
-    requires { at ≤ length s.now }
-    ensures { result ≡ at + run is_blank (drop at s.now) }
+// The index of the first byte that is not a blank. This search and the next are functions of their own, because a proof knows what a chain finds only
+// at its end.
+fn first_not_blank(s: &[u8]) -> Option<usize>
+    ensures { result ≡ position (λ b. not (is_blank b)) s.now }
 {
-    let mut k = at;
-    while k < s.len() {
-        if !is_blank(s[k]) {
-            break;
-        }
-        k = k + 1;
-    }
-    k
+    s.iter().position(|b| !is_blank(*b))
 }
 
-// The index of the first blank from `at` on.
-fn word_end(s: &[u8], at: usize) -> usize
-    requires { at ≤ length s.now }
-    ensures { result ≡ at + run not_blank (drop at s.now) }
+// The index of the first blank.
+fn first_blank(s: &[u8]) -> Option<usize>
+    ensures { result ≡ position (λ b. is_blank b) s.now }
 {
-    let mut k = at;
-    while k < s.len() {
-        if is_blank(s[k]) {
-            break;
-        }
-        k = k + 1;
-    }
-    k
+    s.iter().position(|b| is_blank(*b))
 }
 
-fn same_word(a: &[u8], b: &[u8]) -> bool
-    ensures { result ≡ same_word a.now b.now }
+// The first word of a text, and the text after it. The word is empty if there are only blanks.
+fn split_word(s: &[u8]) -> (&[u8], &[u8])
+    ensures word { result.0.now ≡ word s.now }
+    ensures rest { result.1.now ≡ after_word s.now }
 {
-    if a.len() != b.len() {
-        return false;
-    }
-    for k in 0..a.len() {
-        if a[k] != b[k] {
-            return false;
-        }
-    }
-    true
-}
-
-fn last_byte(s: &[u8]) -> u8
-    ensures { result ≡ last_byte s.now }
-{
-    if s.len() == 0 {
-        return 0;
-    }
-    s[s.len() - 1]
+    let from = first_not_blank(s).unwrap_or(s.len());
+    let s = &s[from..];
+    let to = first_blank(s).unwrap_or(s.len());
+    s.split_at(to)
 }
 
 // ---- numbers
@@ -136,268 +84,150 @@ fn last_byte(s: &[u8]) -> u8
 fn is_hex(word: &[u8]) -> bool
     ensures { result ≡ is_hex word.now }
 {
-    let last = last_byte(word);
-    if last == b'h' {
-        return true;
-    }
-    last == b'H'
+    matches!(word.last(), Some(b'h' | b'H'))
 }
 
-fn digit_value(b: u8) -> u64
-    ensures { result ≡ digit_of b }
-{
-    digits::digit(b) as u64
-}
-
+// A number stops at the first value that is too big for every field.
 #[tactic(auto, unfolding(crate::specs::Line::capped))]
 fn capped(n: u64) -> u64
     ensures { result ≡ capped n }
 {
-    if n <= TOO_BIG {
-        return n;
-    }
-    TOO_BIG
+    n.min(TOO_BIG)
 }
 
-// The number that the digits stand for. Not ok if one of them is not a digit of this base, or if there are none.
-fn number_of(digits: &[u8], base: u64) -> Number
+// The number that the digits stand for. There is none if one of them is not a digit of this base, or if there are no digits.
+fn number_of(digits: &[u8], base: u64) -> Option<u64>
     requires { (0 < base) × (base ≤ 16) }
-    ensures { result ≡ number_of base digits.now }
+    ensures { result ≡ number_found (number_of base digits.now) }
 {
     let mut value: u64 = 0;
-    for k in 0..digits.len() {
-        let d = digit_value(digits[k]);
+    for b in digits {
+        let d = u64::from(digits::digit(*b)?);
         if base <= d {
-            return Number {
-                ok: false,
-                value: 0,
-            };
+            return None;
         }
         value = capped(value * base + d);
     }
-    Number {
-        ok: 0 < digits.len(),
-        value,
+    if digits.is_empty() {
+        return None;
     }
+    Some(value)
 }
 
-fn read_number(word: &[u8]) -> Number
-    ensures { result ≡ number_in word.now }
+fn read_number(word: &[u8]) -> Option<u64>
+    ensures { result ≡ number_found (number_in word.now) }
 {
     if is_hex(word) {
-        let count = word.len() - 1;
-        return number_of(&word[..count], HEX);
+        return number_of(&word[..word.len() - 1], HEX);
     }
     number_of(word, DECIMAL)
 }
 
 // ---- statements
 
-// The kind of a keyword, or 0.
+// The kind of a keyword. Not a `match` on byte strings: the proof did not close, with a goal for each byte that may differ.
 #[tactic(auto, unfolding(crate::specs::Line::kind_of))]
-fn keyword(word: &[u8]) -> u32
-    ensures { result ≡ kind_of word.now }
+fn keyword(word: &[u8]) -> Option<RecordKind>
+    ensures { kind_found result ≡ kind_of word.now }
 {
-    if same_word(word, b"write") {
-        return script::WRITE;
+    if word == b"write".as_slice() {
+        return Some(RecordKind::Write);
     }
-    if same_word(word, b"read") {
-        return script::READ;
+    if word == b"read".as_slice() {
+        return Some(RecordKind::Read);
     }
-    if same_word(word, b"delay") {
-        return script::DELAY;
+    if word == b"delay".as_slice() {
+        return Some(RecordKind::Delay);
     }
-    if same_word(word, b"repeat") {
-        return script::REPEAT;
+    if word == b"repeat".as_slice() {
+        return Some(RecordKind::Repeat);
     }
-    if same_word(word, b"if") {
-        return script::IF;
+    if word == b"if".as_slice() {
+        return Some(RecordKind::If);
     }
-    if same_word(word, b"else") {
-        return script::ELSE;
+    if word == b"else".as_slice() {
+        return Some(RecordKind::Else);
     }
-    if same_word(word, b"end") {
-        return script::END;
+    if word == b"end".as_slice() {
+        return Some(RecordKind::End);
     }
-    0
+    None
 }
 
 // How many numbers follow a keyword.
 #[tactic(auto, unfolding(crate::specs::Line::operand_count))]
-fn operand_count(kind: u32) -> u32
-    ensures { result ≡ operand_count kind }
+fn operand_count(kind: RecordKind) -> usize
+    ensures { result ≡ operand_count (kind_number kind) }
 {
     match kind {
-        script::WRITE => 3,
-        script::READ => 2,
-        script::DELAY => 1,
-        script::REPEAT => 1,
-        script::IF => 3,
-        _ => 0,
+        RecordKind::Write | RecordKind::If => 3,
+        RecordKind::Read => 2,
+        RecordKind::Delay | RecordKind::Repeat => 1,
+        RecordKind::Else | RecordKind::End => 0,
     }
 }
 
-// The next word from `at` on, as a number.
-fn next_operand(s: &[u8], at: usize) -> Operand
-    requires { at ≤ length s.now }
-    ensures { OperandAt s.now at true result }
+// The text is this many numbers, and nothing else. The numbers that a statement does not have are 0, as are the unused fields of its record.
+fn read_operands(s: &[u8], count: usize) -> Option<[u64; MOST_OPERANDS]>
+    requires { count ≤ 3 }
+    ensures { result ≡ operands_found count s.now }
 {
-    let from = skip_blanks(s, at);
-    let to = word_end(s, from);
-    let n = read_number(&s[from..to]);
-    Operand {
-        ok: n.ok,
-        value: n.value,
-        next: to,
+    let mut values = [0; MOST_OPERANDS];
+    let mut rest = s;
+    for k in 0..count {
+        let (word, after) = split_word(rest);
+        values[k] = read_number(word)?;
+        rest = after;
     }
+    if first_not_blank(rest).is_some() {
+        return None; // A word too many.
+    }
+    Some(values)
 }
 
-// The next number, if the statement has one there.
-fn read_operand(s: &[u8], at: usize, wanted: bool) -> Operand
-    requires { at ≤ length s.now }
-    ensures { OperandAt s.now at wanted result }
+// The record of a statement, if each number fits its field and the record has none of refusal 4.
+fn make_record(kind: RecordKind, width: u64, port: u64, value: u64) -> Result<Record, RefusalKind>
+    ensures { record_read result ≡ result_of (script_record (kind_number kind) width port value) }
 {
-    if !wanted {
-        return Operand {
-            ok: true,
-            value: 0,
-            next: at,
-        };
-    }
-    next_operand(s, at)
-}
-
-fn no_record() -> Record
-    ensures { result ≡ no_record }
-{
-    Record {
-        mark: 0,
-        kind: 0,
-        width: 0,
-        port: 0,
-        target: 0,
-        value: 0,
-    }
-}
-
-// A line with a fault, or without a statement.
-fn without_record(fault: u32) -> LineResult
-    ensures { result ≡ refused fault }
-{
-    LineResult {
-        fault,
-        statements: 0,
-        found: no_record(),
-    }
-}
-
-// Does each number fit its field, and has the record none of refusal 4?
-fn fits(kind: u32, width: u64, port: u64, value: u64) -> bool
-    ensures { result ≡ fits_fields (script_record kind width port value) }
-{
-    if TOO_BIG <= width {
-        return false;
-    }
-    if MOST_PORT < port {
-        return false;
-    }
-    if TOO_BIG <= value {
-        return false;
+    if TOO_BIG <= width || MOST_PORT < port || TOO_BIG <= value {
+        return Err(RefusalKind::NumberTooBig);
     }
     let r = Record {
         mark: Record::SCRIPT_MARK,
-        kind,
+        kind: kind.number(),
         width: width as u32,
         port: port as u32,
         target: 0,
         value: value as u32,
     };
-    script::good_fields(r)
-}
-
-// The record of a statement whose numbers fit.
-fn with_record(kind: u32, width: u64, port: u64, value: u64) -> LineResult
-    requires { fits_fields (script_record kind width port value) ≡ true }
-    ensures { result ≡ result_of (script_record kind width port value) }
-{
-    let found = Record {
-        mark: Record::SCRIPT_MARK,
-        kind,
-        width: width as u32,
-        port: port as u32,
-        target: 0,
-        value: value as u32,
-    };
-    LineResult {
-        fault: 0,
-        statements: 1,
-        found,
+    if !script::good_fields(r) {
+        return Err(RefusalKind::NumberTooBig);
     }
+    Ok(r)
 }
 
 // Does a statement of this kind have a count?
-fn has_count(kind: u32) -> bool
-    ensures { result ≡ has_count kind }
+fn has_count(kind: RecordKind) -> bool
+    ensures { result ≡ has_count (kind_number kind) }
 {
-    if kind == script::DELAY {
-        return true;
-    }
-    kind == script::REPEAT
-}
-
-fn choose(test: bool, a: u64, b: u64) -> u64
-    ensures { result ≡ cond test a b }
-{
-    if test {
-        return a;
-    }
-    b
+    matches!(kind, RecordKind::Delay | RecordKind::Repeat)
 }
 
 // The statement in a line without its comment, if there is one.
-fn read_statement(s: &[u8]) -> LineResult
-    ensures { result ≡ statement_result s.now }
+fn read_statement(s: &[u8]) -> Result<Option<Record>, RefusalKind>
+    ensures { line_read result ≡ statement_result s.now }
 {
-    let from = skip_blanks(s, 0);
-    if from == s.len() {
-        return without_record(0);
+    let (word, rest) = split_word(s);
+    if word.is_empty() {
+        return Ok(None);
     }
-    let to = word_end(s, from);
-    let kind = keyword(&s[from..to]);
-    if kind == 0 {
-        return without_record(outcome::NOT_IN_GRAMMAR);
+    let kind = keyword(word).ok_or(RefusalKind::NotInGrammar)?;
+    let operands = read_operands(rest, operand_count(kind)).ok_or(RefusalKind::NotInGrammar)?;
+    let [first, second, third] = operands;
+    if has_count(kind) {
+        return Ok(Some(make_record(kind, 0, 0, first)?)); // A count is the value.
     }
-    let count = operand_count(kind);
-    if count == 0 {
-        if skip_blanks(s, to) != s.len() {
-            return without_record(outcome::NOT_IN_GRAMMAR);
-        }
-        return with_record(kind, 0, 0, 0);
-    }
-    let first = next_operand(s, to);
-    if !first.ok {
-        return without_record(outcome::NOT_IN_GRAMMAR);
-    }
-    let second = read_operand(s, first.next, 1 < count);
-    if !second.ok {
-        return without_record(outcome::NOT_IN_GRAMMAR);
-    }
-    let third = read_operand(s, second.next, 2 < count);
-    if !third.ok {
-        return without_record(outcome::NOT_IN_GRAMMAR);
-    }
-    if skip_blanks(s, third.next) != s.len() {
-        return without_record(outcome::NOT_IN_GRAMMAR); // A word too many.
-    }
-    // A count is the value.
-    let counts = has_count(kind);
-    let width = choose(counts, 0, first.value);
-    let port = choose(counts, 0, second.value);
-    let value = choose(counts, first.value, third.value);
-    if !fits(kind, width, port, value) {
-        return without_record(outcome::NUMBER_TOO_BIG);
-    }
-    with_record(kind, width, port, value)
+    Ok(Some(make_record(kind, first, second, third)?))
 }
 
 // ---- lines
@@ -406,7 +236,7 @@ fn read_statement(s: &[u8]) -> LineResult
 fn before_return(line: &[u8]) -> usize
     ensures { result ≡ before_return line.now }
 {
-    if last_byte(line) == b'\r' {
+    if matches!(line.last(), Some(b'\r')) {
         return line.len() - 1;
     }
     line.len()
@@ -425,12 +255,12 @@ fn content_length(line: &[u8], comment: usize) -> usize
 
 // Reads a line, without its line feed. `comment` is the index of its first semicolon, or its length: the caller finds it while it looks for
 // the end of the line.
-pub fn read(line: &[u8], comment: usize) -> LineResult
+pub fn read(line: &[u8], comment: usize) -> Result<Option<Record>, RefusalKind>
     requires { comment ≡ run not_semicolon line.now }
-    ensures { result ≡ line_result line.now }
+    ensures { line_read result ≡ line_result line.now }
 {
     if MOST_BYTES < line.len() {
-        return without_record(outcome::LINE_TOO_LONG);
+        return Err(RefusalKind::LineTooLong);
     }
     let end = content_length(line, comment);
     read_statement(&line[..end])

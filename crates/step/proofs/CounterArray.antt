@@ -11,9 +11,9 @@ use borrow.Author.Tests.{eqb-true, le-leb, le-ltb, leb-true, lt-ltb}
 use lib.Dec.{leb}
 use lib.ListN.{length, get_or, set, replicate, length-reverse}
 use lib.Seq.{get_or-append-add}
-use Rattle.lists.specs.Slice.{slice}
 use Rattle.lists.specs.Stack.{stack_of}
 use Rattle.lists.proofs.Replicate.{replicate_at, slice_replicate}
+use Rattle.lists.proofs.Slice.{slice_whole}
 use Rattle.lists.proofs.Stack.{array_push, array_set_top, array_stack, array_top, stack_array, stack_length}
 use Rattle.mask.proofs.Every.{all_at, all_true, and_both, and_left, and_right}
 use Rattle.script.specs.Refusals.{innermost}
@@ -38,10 +38,6 @@ counter_popped c cs h =
     counter_set c cs 0 ∙ (rw e (array_top 0 cs (replicate (8 - suc (length cs)) 0)))
 
 -- ---- the counters of a valid sequencer
--- the eight counters, one by one
-abbrev pub eight : List ℕ → List ℕ
-eight xs = slice 0 8 0 xs
-
 pub used_few : (s : Sequencer) → sequencer_in_range s ≡ true → s.used ≤ 8
 unfolding sequencer_in_range
 used_few s h = leb-true s.used 8 (and_left _ _ h)
@@ -61,14 +57,15 @@ rest_zero :
 rest_zero s h k l m = eqb-true _ 0 (rw (le-ltb k s.used l) at (in_range_at s h k m))
 
 -- the array of a valid sequencer holds its counters in use, then zeros
-pub counters_array : (s : Sequencer) → sequencer_in_range s ≡ true → eight s.counters ≡ counter_array (counters_of s)
-counters_array s h =
+pub counters_array :
+    (s : Sequencer) → length s.counters ≡ 8 → sequencer_in_range s ≡ true → s.counters ≡ counter_array (counters_of s)
+counters_array s w h =
     let n = s.used in
     let xs = s.counters in
     let few = used_few s h in
     let e : n + (8 - n) ≡ 8 = omega (arith, few) in
     let z = slice_replicate 0 (8 - n) n xs (λ k l. rest_zero s h (n + k) (omega arith) (omega (arith, l, few))) in
-    rw (stack_length n xs, ← z) (sym (rw e at (array_stack n (8 - n) xs)))
+    sym (slice_whole 0 8 xs w) ∙ rw (stack_length n xs, ← z) (sym (rw e at (array_stack n (8 - n) xs)))
 
 -- ---- valid counters, as a list and as an array
 -- "those in use 1 to 65,535"

@@ -2,22 +2,25 @@
 -- represents.
 use Prim.Native.Nat.{ℕ, suc, ◌+◌, ◌-◌, ◌≤◌, ◌<◌}
 use mathlib.Core.Path.{◌≡◌, refl, ap, sym, ◌∙◌}
-use mathlib.Core.Bool.{true, false}
+use mathlib.Core.Bool.{Bool, true, false, cond, false≢true}
 use mathlib.Core.List.{List, [], ◌∷◌, ◌++◌, append-nil}
 use native.Mathlib.Numerals.{add-one}
 use native.Mathlib.Decide.{dec_lt}
 use native.Mathlib.Omega.{arith}
-use borrow.Author.Tests.{eq-eqb, ne_eqb}
+use borrow.Author.Tests.{eq-eqb, eqb-false, eqb-true, ne_eqb}
+use lib.Dec.{eqb}
 use lib.ListN.{length, drop, get_or, set, length-append, length-drop}
 use Rattle.access.specs.declared.Access.{Access}
 use Rattle.device.specs.Event.{apply_event, tick_event}
-use Rattle.device.specs.Dispatch.{device_access}
+use Rattle.device.specs.Dispatch.{AccessResult, device_access}
 use Rattle.device.specs.declared.Device.{Device}
-use Rattle.device.specs.declared.AccessResult.{AccessResult}
 use Rattle.mask.specs.Mask.{has_bit}
 use Rattle.lists.proofs.Stores.{stored}
 use Rattle.log_entry.specs.Entry.{log_entry}
+use Rattle.record.specs.WordKinds.{word_kind_number}
 use Rattle.record.specs.declared.Record.{Record}
+use Rattle.record.specs.declared.word_kind.WordKind.{WordKind}
+use Rattle.record.specs.declared.word_kind.WordKind.TheVariants.{Write, Read, Delay, Enter, LoopEnd, Test, Jump, Halt}
 use Rattle.semantics.specs.World.{
   after_access,
   answer_to,
@@ -33,9 +36,32 @@ use Rattle.semantics.specs.World.{
   write_of,
   after_write,
 }
-use Rattle.step.specs.Represents.{Implements, Represents, KeepsLog, RunState, KeepsEvents, access_of}
+use Rattle.step.specs.Effects.{
+  AnswerEffect,
+  control_result,
+  enter_counters,
+  enter_result,
+  is_read,
+  loop_end_counters,
+  loop_end_result,
+  turns_left,
+}
+use Rattle.step.specs.Represents.{
+  Implements,
+  ImplementsAccess,
+  KeepsDevice,
+  KeepsEvents,
+  KeepsLog,
+  Represents,
+  RunState,
+  access_of,
+  is_access,
+  is_control,
+  run_state,
+}
 use Rattle.step.specs.Sequencer.{counter_array}
 use Rattle.step.specs.Step.{Machine, execute, enter, loop_end, machine, test_word}
+use Rattle.step.specs.declared.execute.Position.{Position}
 use Rattle.step.proofs.CounterArray.{counter_pushed, counter_top, counter_set, counter_popped}
 
 -- ---- `execute`, for each kind
@@ -338,7 +364,7 @@ topped x m a u l z = pick m.counters refl
 
 -- a loop end at the last turn
 pub loop_over :
-    (word : Record) (x : RunState) → word.kind ≡ 5 → 0 < x.used → get_or x.counters (x.used - 1) 0 ≤ 1
+    (word : Record) (x : RunState) → word.kind ≡ 5 → 0 < x.used → get_or x.counters (x.used - 1) 0 - 1 ≡ 0
     → KeepsEvents word x (counted_to x (set x.counters (x.used - 1) 0) (x.used - 1) (x.place + 1))
 loop_over word x k z l = λ events log lent m h.
     let t = topped x m h.counters h.used h.few z in
@@ -350,12 +376,111 @@ loop_over word x k z l = λ events log lent m h.
 
 -- a loop end before the last turn
 pub loop_again :
-    (word : Record) (x : RunState) → word.kind ≡ 5 → 0 < x.used → 1 < get_or x.counters (x.used - 1) 0
+    (word : Record) (x : RunState) → word.kind ≡ 5 → 0 < x.used → (get_or x.counters (x.used - 1) 0 - 1 ≡ 0 → ⊥)
     → KeepsEvents word x
     (counted_to x (set x.counters (x.used - 1) (get_or x.counters (x.used - 1) 0 - 1)) x.used word.target)
 loop_again word x k z l = λ events log lent m h.
     let t = topped x m h.counters h.used h.few z in
-    rw (execute_loop word m k, t.split, ne_eqb (t.top - 1) 0 (λ q. omega (arith, q, l, t.read)))
+    rw (execute_loop word m k, t.split, ne_eqb (t.top - 1) 0 (λ q. l (rw t.read q)))
     (with_counters _ _ _ _ ((t.top - 1) ∷ t.below) h
     (rw t.read (t.lowered (t.top - 1)))
     (omega (arith, t.under, z)) (omega (arith, t.room)) refl)
+
+-- ---- the functions of src/execute.rt
+-- `enter`
+pub entered :
+    (word : Record) (x : Position) (cs : List ℕ) → word.kind ≡ 4 → (8 ≤ x.used → word.value ≡ 0)
+    → KeepsDevice word x cs (enter_result x word.value word.target) (enter_counters x word.value cs)
+entered word x cs k f = pick (eqb word.value 0) refl
+  where
+    pick : (b : Bool) → eqb word.value 0 ≡ b
+        → KeepsDevice word x cs (cond b (control_result x.used word.target) (control_result (x.used + 1) (x.place + 1)))
+        (cond b cs (set cs x.used word.value))
+    pick true e = λ d. enter_none word (run_state d x cs) k (eqb-true word.value 0 e)
+    pick false e = λ d.
+        let z = eqb-false word.value 0 e in
+        enter_pushed word (run_state d x cs) k z (room_left_lem x.used word.value f z)
+
+-- `loop_end`
+pub loop_ended :
+    (word : Record) (x : Position) (cs : List ℕ) → word.kind ≡ 5 → 0 < x.used
+    → KeepsDevice word x cs (loop_end_result x word.target cs) (loop_end_counters x cs)
+loop_ended word x cs k l = pick (eqb (turns_left x cs) 0) refl
+  where
+    pick : (b : Bool) → eqb (turns_left x cs) 0 ≡ b
+        → KeepsDevice word x cs (cond b (control_result (x.used - 1) (x.place + 1)) (control_result x.used word.target))
+        (loop_end_counters x cs)
+    pick true e = λ d.
+        let z = eqb-true (turns_left x cs) 0 e in
+        rw z (loop_over word (run_state d x cs) k l z)
+    pick false e = λ d. loop_again word (run_state d x cs) k l (eqb-false (turns_left x cs) 0 e)
+
+-- the third control word
+pub jump_left : (kind : WordKind) → is_control kind ≡ true → (kind ≡ Enter → ⊥) → (kind ≡ LoopEnd → ⊥) → kind ≡ Jump
+jump_left Jump h a b = refl
+jump_left Enter h a b = absurd (a refl)
+jump_left LoopEnd h a b = absurd (b refl)
+jump_left Write h a b = absurd (false≢true h)
+jump_left Read h a b = absurd (false≢true h)
+jump_left Delay h a b = absurd (false≢true h)
+jump_left Test h a b = absurd (false≢true h)
+jump_left Halt h a b = absurd (false≢true h)
+
+-- `apply_answer`, for the answer of the access that it is given
+pub answered :
+    (kind : WordKind) (word : Record) (owner value : ℕ) (events : List ℕ) (x : Position) (log : List ℕ) (y : Position) (log' : List ℕ)
+    → word_kind_number kind ≡ word.kind → is_access kind ≡ true → (is_read kind ≡ true → x.logged < length log)
+    → AnswerEffect kind word.value word.target owner value events x log y log'
+    → ImplementsAccess word owner value events x log y log'
+answered Write word owner value events x log y log' k a l h = λ d arrived cs r p g o v.
+    rw (h.used, h.place, h.logged, h.lines)
+    (wrote word (run_state d x cs) events r y.taken (sym k)
+    (record {
+      arrived = arrived;
+      applied = p;
+      answered = g ∙ ap (device_access arrived) (access_write word (sym k));
+      inside = h.inside;
+      left = h.left;
+    }) log)
+answered Read word owner value events x log y log' k a l h = λ d arrived cs r p g o v.
+    rw (h.used, h.place, h.logged, h.lines)
+    (read_out word (run_state d x cs) events log r y.taken _ (sym k)
+    (record {
+      arrived = arrived;
+      applied = p;
+      answered = g ∙ ap (device_access arrived) (access_read word (λ q. omega (arith, k, q)));
+      inside = h.inside;
+      left = h.left;
+    }) (sym (rw (o, v))) (l refl))
+answered Test word owner value events x log y log' k a l h = λ d arrived cs r p g o v.
+    pick (has_bit word.value value) refl h d arrived cs r p g o v
+  where
+    pick : (b : Bool) → has_bit word.value value ≡ b → AnswerEffect Test word.value word.target owner value events x log y log'
+        → ImplementsAccess word owner value events x log y log'
+    pick true e h = λ d arrived cs r p g o v.
+        let q : y.place ≡ x.place + 1 = rw e at h.place in
+        rw (h.used, q, h.logged, h.lines)
+        (test_passed word (run_state d x cs) events r y.taken value (sym k)
+        (record {
+          arrived = arrived;
+          applied = p;
+          answered = g ∙ ap (device_access arrived) (access_read word (λ q. omega (arith, k, q)));
+          inside = h.inside;
+          left = h.left;
+        }) v e log)
+    pick false e h = λ d arrived cs r p g o v.
+        let q : y.place ≡ word.target = rw e at h.place in
+        rw (h.used, q, h.logged, h.lines)
+        (test_failed word (run_state d x cs) events r y.taken value (sym k)
+        (record {
+          arrived = arrived;
+          applied = p;
+          answered = g ∙ ap (device_access arrived) (access_read word (λ q. omega (arith, k, q)));
+          inside = h.inside;
+          left = h.left;
+        }) v e log)
+answered Delay word owner value events x log y log' k a l h = absurd (false≢true a)
+answered Enter word owner value events x log y log' k a l h = absurd (false≢true a)
+answered LoopEnd word owner value events x log y log' k a l h = absurd (false≢true a)
+answered Jump word owner value events x log y log' k a l h = absurd (false≢true a)
+answered Halt word owner value events x log y log' k a l h = absurd (false≢true a)

@@ -1,17 +1,22 @@
 -- A word without a fault meets the conditions of its execution: room in the log, a free counter or one in use, a value in
 -- range.
 use Prim.Native.Nat.{ℕ, zero, suc, ◌≤◌, ◌<◌}
-use mathlib.Core.Path.{◌≡◌, refl}
+use mathlib.Core.Path.{◌≡◌, refl, ap, sym, subst, ◌∙◌}
+use Rattle.std.proofs.Common.{◌⊎◌, inl, inr}
 use mathlib.Core.List.{List}
 use mathlib.Core.Bool.{Bool, true, false, cond, not, ◌&&◌, ◌||◌}
 use native.Mathlib.Omega.{arith}
-use borrow.Author.Tests.{eqb-false, eqb-true, leb-false, leb-true, ne_eqb, not-false}
+use borrow.Author.Tests.{eqb-true, leb-false, leb-true, not-false}
 use lib.Dec.{eqb, leb}
 use lib.ListN.{length}
-use Rattle.mask.proofs.Every.{and_left, and_right}
+use Rattle.mask.proofs.Every.{and_right}
+use Rattle.record.specs.WordKinds.{word_kind_number}
 use Rattle.record.specs.declared.Record.{Record}
+use Rattle.record.specs.declared.word_kind.WordKind.{WordKind}
+use Rattle.record.specs.declared.word_kind.WordKind.TheVariants.{Enter, Jump, LoopEnd, Read, Test, Write}
 use Rattle.script.specs.Fields.{count_fields}
-use Rattle.step.specs.Represents.{AccessReady, ControlReady, is_control}
+use Rattle.step.specs.Effects.{is_read}
+use Rattle.step.specs.Represents.{ControlReady, is_access, is_control}
 use Rattle.step.specs.declared.execute.Position.{Position}
 use Rattle.step.specs.Step.{target_beyond, ninth_counter, no_counter, log_full, word_fault}
 use Rattle.step.specs.Word.{bad_word, bad_word_kind, good_word_fields, wrong_word_mark}
@@ -39,10 +44,6 @@ clean words room used logged r h =
     pick false false false false true p q s t u z = absurd (omega (arith, z))
     pick false false false false false p q s t u z =
         record { good = p; near = q; counter = s; open_loop = t; log_room = u }
-
-pub or_left : (a b : Bool) → (a || b) ≡ false → a ≡ false
-or_left true b h = h
-or_left false b h = refl
 
 pub or_right : (a b : Bool) → (a || b) ≡ false → b ≡ false
 or_right true b h = let z : ◌≡◌ {A = ℕ} 0 1 = cc in absurd (omega arith)
@@ -85,50 +86,51 @@ delay_value r k h =
 pub enter_value : (r : Record) → r.kind ≡ 4 → bad_word r ≡ false → r.value ≤ 65535
 enter_value r k h = count_value r (rw k at (fields r h))
 
-pub kind_known : (r : Record) → bad_word r ≡ false → (1 ≤ r.kind) × (r.kind ≤ 8)
-unfolding bad_word
-kind_known r h =
-    let k = not-false (leb 1 r.kind && leb r.kind 8) (or_left (bad_word_kind r) _ (or_right (wrong_word_mark r) _ h)) in (
-      leb-true 1 r.kind (and_left _ _ k),
-      leb-true r.kind 8 (and_right (leb 1 r.kind) _ k),
-    )
-
-beyond : (a k : ℕ) → a ≤ k → (k ≡ a → ⊥) → suc a ≤ k
-beyond a k h n = omega arith
-
-from_six : (k : ℕ) → 6 ≤ k → k ≤ 8 → (k ≡ 7 → ⊥) → (k ≡ 8 → ⊥) → k ≡ 6
-from_six k l h a b = omega arith
-
 -- ---- the conditions of `execute_control`, of `apply_answer` and of a delay
 pub control_ready :
-    (words room : ℕ) (x : Position) (r : Record) → word_fault words room x.used x.logged r ≡ 0 → x.used ≤ 8
-    → is_control r ≡ true → ControlReady x r
-control_ready words room x r z few t =
+    (words room : ℕ) (x : Position) (kind : WordKind) (r : Record) → word_kind_number kind ≡ r.kind
+    → word_fault words room x.used x.logged r ≡ 0 → x.place < 1024 → x.used ≤ 8 → is_control kind ≡ true → ControlReady x kind r
+control_ready words room x kind r k z near few t =
     let c = clean words room x.used x.logged r z in
     record {
-      enters = λ k. enter_room x.used r k c.counter;
-      loops = λ k. loop_open x.used r k c.open_loop;
+      near = near;
+      kind_is = k;
+      control = t;
+      enters = λ e. enter_room x.used r (sym k ∙ ap word_kind_number e) c.counter;
+      loops = λ e. loop_open x.used r (sym k ∙ ap word_kind_number e) c.open_loop;
       few = few;
-      jumps = λ a b. eqb-true r.kind 7 (rw (ne_eqb r.kind 4 a, ne_eqb r.kind 5 b) at t);
     }
 
-pub access_ready :
-    (words : ℕ) (x : Position) (r : Record) (log : List ℕ) → word_fault words (length log) x.used x.logged r ≡ 0
-    → is_control r ≡ false → (r.kind ≡ 8 → ⊥) → (r.kind ≡ 3 → ⊥) → AccessReady x r log
-access_ready words x r log z t h n3 =
+pub log_ready :
+    (words : ℕ) (x : Position) (kind : WordKind) (r : Record) (log : List ℕ) → word_kind_number kind ≡ r.kind
+    → word_fault words (length log) x.used x.logged r ≡ 0 → is_read kind ≡ true → x.logged < length log
+log_ready words x kind r log k z e =
     let c = clean words (length log) x.used x.logged r z in
-    let k = kind_known r c.good in
-    let n4 = eqb-false r.kind 4 (or_left (eqb r.kind 4) _ t) in
-    let rest = or_right (eqb r.kind 4) _ t in
-    let n5 = eqb-false r.kind 5 (or_left (eqb r.kind 5) _ rest) in
-    let n7 = eqb-false r.kind 7 (or_right (eqb r.kind 5) _ rest) in
-    record {
-      reads = λ e. read_room (length log) x.logged r e c.log_room;
-      tests = λ n1 n2.
-          from_six r.kind (beyond 5 r.kind (beyond 4 r.kind (beyond 3 r.kind (beyond 2 r.kind (beyond 1 r.kind k.0 n1) n2) n3) n4) n5) k.1 n7 h;
-    }
+    read_room (length log) x.logged r (sym k ∙ eqb-true (word_kind_number kind) 2 e) c.log_room
 
 pub delay_ready :
     (words room : ℕ) (x : Position) (r : Record) → word_fault words room x.used x.logged r ≡ 0 → r.kind ≡ 3
     → r.value ≤ 65535
 delay_ready words room x r z k = delay_value r k (clean words room x.used x.logged r z).good
+
+-- ---- the words that neither halt nor delay, as the run takes them apart
+one_of_three : {k a b c : WordKind} (P : WordKind → Type 0) → P a → P b → P c → (k ≡ a) ⊎ ((k ≡ b) ⊎ (k ≡ c)) → P k
+one_of_three P p q r (inl e) = subst P (sym e) p
+one_of_three P p q r (inr (inl e)) = subst P (sym e) q
+one_of_three P p q r (inr (inr e)) = subst P (sym e) r
+
+abbrev Control : WordKind → Type 0
+Control k = (is_control k ≡ true) × (word_kind_number k ≡ 8 → ⊥)
+
+abbrev Accesses : WordKind → Type 0
+Accesses k = (is_access k ≡ true) × (word_kind_number k ≡ 8 → ⊥)
+
+pub control_word :
+    {k : WordKind} → (k ≡ Enter) ⊎ ((k ≡ LoopEnd) ⊎ (k ≡ Jump)) → (is_control k ≡ true) × (word_kind_number k ≡ 8 → ⊥)
+control_word e =
+    one_of_three Control (refl, λ z. omega (arith, z)) (refl, λ z. omega (arith, z)) (refl, λ z. omega (arith, z)) e
+
+pub access_word :
+    {k : WordKind} → (k ≡ Write) ⊎ ((k ≡ Read) ⊎ (k ≡ Test)) → (is_access k ≡ true) × (word_kind_number k ≡ 8 → ⊥)
+access_word e =
+    one_of_three Accesses (refl, λ z. omega (arith, z)) (refl, λ z. omega (arith, z)) (refl, λ z. omega (arith, z)) e

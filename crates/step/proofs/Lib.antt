@@ -2,3 +2,4 @@ pub mod Events
 pub mod CounterArray
 pub mod EachKind
 pub mod Faults
+pub mod Enumerated

@@ -1,13 +1,16 @@
 -- How the state of the code (`RunState`) represents the state of the definitions (`Machine`). Only contracts inside `step`
 -- and `sequencer`, and their proofs, use this file.
-use Rattle.std.specs.Prelude.{ℕ, ◌≤◌, ◌<◌, ◌≡◌, Bool, cond, ◌||◌, List, eqb, drop, length}
+use Rattle.std.specs.Prelude.{ℕ, ◌≤◌, ◌<◌, ◌≡◌, Bool, true, false, cond, List, eqb, drop, length}
 use Rattle.access.specs.declared.Access.{Access}
-use Rattle.device.specs.Dispatch.{device_access}
+use Rattle.device.specs.Dispatch.{AccessResult, device_access}
 use Rattle.device.specs.declared.Device.{Device}
-use Rattle.device.specs.declared.AccessResult.{AccessResult}
 use Rattle.semantics.specs.World.{after_next_event, read_of, write_of}
 use Rattle.record.specs.WordKind as word_kind
+use Rattle.record.specs.Record.{most_records}
+use Rattle.record.specs.WordKinds.{word_kind_number}
 use Rattle.record.specs.declared.Record.{Record}
+use Rattle.record.specs.declared.word_kind.WordKind.{WordKind}
+use Rattle.record.specs.declared.word_kind.WordKind.TheVariants.{Write, Read, Enter, LoopEnd, Test, Jump}
 use Rattle.step.specs.Sequencer.{counter_array, counter_count}
 use Rattle.step.specs.Step.{Machine, execute, log_filled}
 use Rattle.step.specs.declared.execute.Position.{Position}
@@ -33,8 +36,11 @@ run_state d x cs = record {
 }
 
 -- control words: enter, loop end, jump
-abbrev pub is_control : Record → Bool
-is_control r = eqb r.kind word_kind.enter || (eqb r.kind word_kind.loop_end || eqb r.kind word_kind.jump)
+abbrev pub is_control : WordKind → Bool
+is_control Enter = true
+is_control LoopEnd = true
+is_control Jump = true
+is_control _ = false
 
 -- x represents m; `lent` is the log before the run, `log` the log now
 pub record Represents (x : RunState) (events lent log : List ℕ) (m : Machine) : Type 0 where
@@ -73,18 +79,22 @@ KeepsDevice word x cs y cs' = (d : Device) → KeepsEvents word (run_state d x c
 abbrev pub KeepsCounters : Record → Position → ControlResult → Type 0
 KeepsCounters word x y = (cs : List ℕ) → KeepsDevice word x cs y cs
 
--- ---- what `execute_control` and `apply_answer` require; it holds for every word without a fault (proofs/Faults.antt)
-pub record ControlReady (x : Position) (word : Record) : Type 0 where
-  pub enters : word.kind ≡ word_kind.enter → counter_count ≤ x.used → word.value ≡ 0
-  pub loops : word.kind ≡ word_kind.loop_end → 0 < x.used
+-- ---- what `execute_control` requires; it holds for every control word without a fault (proofs/Faults.antt)
+pub record ControlReady (x : Position) (kind : WordKind) (word : Record) : Type 0 where
+  pub near : x.place < most_records
+  pub kind_is : word_kind_number kind ≡ word.kind
+  pub control : is_control kind ≡ true
+  pub enters : kind ≡ Enter → counter_count ≤ x.used → word.value ≡ 0
+  pub loops : kind ≡ LoopEnd → 0 < x.used
   pub few : x.used ≤ counter_count
-  pub jumps : (word.kind ≡ word_kind.enter → ⊥) → (word.kind ≡ word_kind.loop_end → ⊥) → word.kind ≡ word_kind.jump
-
-pub record AccessReady (x : Position) (word : Record) (log : List ℕ) : Type 0 where
-  pub reads : word.kind ≡ word_kind.read → x.logged < length log
-  pub tests : (word.kind ≡ word_kind.write → ⊥) → (word.kind ≡ word_kind.read → ⊥) → word.kind ≡ word_kind.test
 
 -- ---- the words that access the device
+abbrev pub is_access : WordKind → Bool
+is_access Write = true
+is_access Read = true
+is_access Test = true
+is_access _ = false
+
 abbrev pub access_of : Record → Access
 access_of r = cond (eqb r.kind word_kind.write) (write_of r.port r.width r.value) (read_of r.port r.width)
 

@@ -13,7 +13,8 @@ use record::Record;
 // The number of loop counters.
 pub const COUNTERS: usize = 8;
 
-// The place of the next word, and the loop counters, outermost loop first. `used` of them are in use; the others are 0.
+// The place of the next word, and the loop counters, outermost loop first. `used` of them are in use; the others are 0. The number stays beside the
+// array: a saved state has both, and refusal 11 is about those that do not agree (`sequencer_in_range`).
 #[derive(Clone, Copy)]
 pub struct Sequencer {
     pub place: u32,
@@ -25,12 +26,10 @@ fn counter_in_range(used: usize, k: usize, counter: u32) -> bool
     ensures { result ≡ counter_in_range used k counter }
 {
     if k < used {
-        if counter < 1 {
-            return false;
-        }
-        return counter <= Record::MOST_TURNS;
+        1 <= counter && counter <= Record::MOST_TURNS
+    } else {
+        counter == 0
     }
-    counter == 0
 }
 
 impl Sequencer {
@@ -44,19 +43,15 @@ impl Sequencer {
         }
     }
 
+    #[tactic(auto, unfolding(crate::specs::Sequencer::sequencer_in_range))]
     pub fn in_range(self) -> bool
         ensures { result ≡ sequencer_in_range self }
     {
-        let used = self.used;
-        let counters = self.counters;
-        if COUNTERS < used {
-            return false;
-        }
-        for k in 0..COUNTERS {
-            if !counter_in_range(used, k, counters[k]) {
-                return false;
-            }
-        }
-        true
+        self.used <= COUNTERS
+            && self
+                .counters
+                .iter()
+                .enumerate()
+                .all(|(k, counter)| counter_in_range(self.used, k, *counter))
     }
 }

@@ -1,133 +1,82 @@
 // `fault` checks a word before it is executed. `sequencer` calls it for every word.
 // See docs/CHIP.md, "Words" and "Runs".
-ghost use Rattle.std.specs.Prelude.{◌≡◌, ◌||◌, eqb};
-ghost use Rattle.step.specs.Word.{uses_target, good_word_fields, bad_word};
-ghost use Rattle.step.specs.Represents.{is_control};
-ghost use Rattle.step.specs.Step.{target_beyond, ninth_counter, no_counter, log_full, word_fault};
+ghost use Rattle.std.specs.Prelude.{◌≡◌, ◌||◌, ◌&&◌, eqb, leb};
+ghost use Rattle.record.specs.WordKind as word_kind;
+ghost use Rattle.record.specs.WordKinds.{word_kind_number};
+ghost use Rattle.script.specs.Fields.{kind_fields};
+ghost use Rattle.step.specs.Checked.{ChecksKind, ChecksWord, kind_uses_target};
 
 use crate::COUNTERS;
-use record::{Record, word_kind};
+use outcome::Ending;
+use record::Record;
+use record::word_kind::WordKind;
 
-// ---- bad words: fault 20
-
-fn uses_target(r: Record) -> bool
-    ensures { result ≡ uses_target r }
+fn uses_target(kind: WordKind) -> bool
+    ensures { result ≡ kind_uses_target kind }
 {
-    if r.kind < word_kind::ENTER {
-        return false;
-    }
-    r.kind <= word_kind::JUMP
+    matches!(
+        kind,
+        WordKind::Enter | WordKind::LoopEnd | WordKind::Test | WordKind::Jump
+    )
 }
 
-fn good_target(r: Record) -> bool
-    ensures { result ≡ (uses_target r || eqb r.target 0) }
+fn good_target(kind: WordKind, r: Record) -> bool
+    ensures { result ≡ (kind_uses_target kind || eqb r.target 0) }
 {
-    if uses_target(r) {
-        return true;
-    }
-    r.target == 0
+    uses_target(kind) || r.target == 0
 }
 
-fn good_fields(r: Record) -> bool
-    ensures { result ≡ good_word_fields r }
+// The fields besides the target, by the kind: `script::kind_fields` would look at the number of the kind again, for every word of a run.
+fn good_fields(kind: WordKind, r: Record) -> bool
+    requires { word_kind_number kind ≡ r.kind }
+    ensures { result ≡ kind_fields word_kind.test r }
 {
-    if !good_target(r) {
-        return false;
+    match kind {
+        WordKind::Write | WordKind::Test => script::value_fields(r),
+        WordKind::Read => script::read_fields(r),
+        WordKind::Delay | WordKind::Enter => script::count_fields(r),
+        WordKind::LoopEnd | WordKind::Jump | WordKind::Halt => script::no_fields(r),
     }
-    script::kind_fields(r, word_kind::TEST)
 }
 
-fn bad(r: Record) -> bool
-    ensures { result ≡ bad_word r }
+// Fault 21 for the target, whether or not the word jumps.
+fn target_beyond(words: u32, kind: WordKind, r: Record) -> bool
+    ensures { result ≡ (kind_uses_target kind && leb words r.target) }
+{
+    uses_target(kind) && words <= r.target
+}
+
+// The kind of a word, or none if the word is bad: fault 20.
+#[tactic(auto, unfolding(crate::specs::Word::bad_word))]
+fn good_kind(r: Record) -> Option<WordKind>
+    ensures { ChecksKind r result }
 {
     if r.mark != Record::WORD_MARK {
-        return true;
+        return None;
     }
-    if r.kind < word_kind::WRITE {
-        return true;
-    }
-    if word_kind::HALT < r.kind {
-        return true;
-    }
-    if good_fields(r) {
-        return false;
-    }
-    true
+    let kind = WordKind::try_from(r.kind).ok()?;
+    (good_target(kind, r) && good_fields(kind, r)).then_some(kind)
 }
 
-// ---- faults 21 to 24
-
-fn target_beyond(words: u32, r: Record) -> bool
-    ensures { result ≡ target_beyond words r }
+// The kind of a word, or its first fault, in the order of the checks.
+#[tactic(auto, unfolding(crate::specs::Step::word_fault))]
+pub fn fault(
+    words: u32,
+    room: usize,
+    used: usize,
+    logged: usize,
+    r: Record,
+) -> Result<WordKind, Ending>
+    ensures { ChecksWord words room used logged r result }
 {
-    let beyond = words <= r.target;
-    if uses_target(r) {
-        return beyond;
+    let kind = good_kind(r).ok_or(Ending::BadWord)?;
+    if target_beyond(words, kind, r) {
+        return Err(Ending::BeyondLastWord);
     }
-    false
-}
-
-fn ninth_counter(used: usize, r: Record) -> bool
-    ensures { result ≡ ninth_counter used r }
-{
-    if r.kind != word_kind::ENTER {
-        return false;
+    match kind {
+        WordKind::Enter if r.value != 0 && COUNTERS <= used => Err(Ending::NinthCounter),
+        WordKind::LoopEnd if used == 0 => Err(Ending::NoCounter),
+        WordKind::Read if room <= logged => Err(Ending::LogFull),
+        _ => Ok(kind),
     }
-    if r.value == 0 {
-        return false;
-    }
-    COUNTERS <= used
-}
-
-fn no_counter(used: usize, r: Record) -> bool
-    ensures { result ≡ no_counter used r }
-{
-    if r.kind != word_kind::LOOP_END {
-        return false;
-    }
-    used == 0
-}
-
-fn log_full(room: usize, logged: usize, r: Record) -> bool
-    ensures { result ≡ log_full room logged r }
-{
-    if r.kind != word_kind::READ {
-        return false;
-    }
-    room <= logged
-}
-
-// The first fault of a word, in the order of the checks, or 0.
-pub fn fault(words: u32, room: usize, used: usize, logged: usize, r: Record) -> u32
-    ensures { result ≡ word_fault words room used logged r }
-{
-    if bad(r) {
-        return outcome::BAD_WORD;
-    }
-    if target_beyond(words, r) {
-        return outcome::BEYOND_LAST_WORD;
-    }
-    if ninth_counter(used, r) {
-        return outcome::NINTH_COUNTER;
-    }
-    if no_counter(used, r) {
-        return outcome::NO_COUNTER;
-    }
-    if log_full(room, logged, r) {
-        return outcome::LOG_FULL;
-    }
-    0
-}
-
-// Control words change only the place and the counters: enter, loop end and jump.
-pub fn is_control(r: Record) -> bool
-    ensures { result ≡ is_control r }
-{
-    if r.kind == word_kind::ENTER {
-        return true;
-    }
-    if r.kind == word_kind::LOOP_END {
-        return true;
-    }
-    r.kind == word_kind::JUMP
 }

@@ -1,14 +1,12 @@
 -- What `trace` does with a script: it compiles it, and runs the words written. "The tracing program reads a script on standard input and runs it on the
 -- fresh device, no events, budget 100,000, log 1,024." The run starts from the fresh sequencer. See docs/CHIP.md, "Runs".
 use Rattle.std.specs.Prelude.{ℕ, cond, List, [], eqb}
-use Rattle.compiler.specs.Compile.{compile_result}
-use Rattle.compiler.specs.declared.CompileResult.{CompileResult}
+use Rattle.compiler.specs.Compile.{CompileResult, compile_result}
 use Rattle.correct.specs.CompilerCorrect.{words_written}
 use Rattle.device.specs.Device.{fresh_device}
-use Rattle.sequencer.specs.Run.{log_after, run_answer}
-use Rattle.sequencer.specs.declared.RunResult.{RunResult}
+use Rattle.sequencer.specs.Run.{RunResult, log_after, run_answer}
 use Rattle.step.specs.Sequencer.{fresh_sequencer}
-use Rattle.trace_text.specs.declared.Summary.{Summary}
+use Rattle.trace_text.specs.Printed.{Summary}
 
 abbrev pub budget : ℕ
 budget = 100000

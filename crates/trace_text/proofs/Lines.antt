@@ -1,66 +1,71 @@
--- The text that `trace` and `interpret` print, line by line: the lines of the entries that are left, and that the buffer has room for the whole text.
-use Prim.Native.Nat.{ℕ, zero, suc, ◌*◌, ◌≤◌, ◌<◌}
-use mathlib.Core.Path.{◌≡◌, refl, ap, sym, ◌∙◌}
-use mathlib.Core.Bool.{Bool, true, false, cond}
-use mathlib.Core.List.{List, [], ◌∷◌, ◌++◌}
-use native.Mathlib.Omega.{arith}
+-- The text that `trace` and `interpret` print, line by line, and that the buffer has room for the whole text.
+use Rattle.std.proofs.Common.{◌≡◌, ℕ, zero, suc, ◌+◌, ◌*◌, ◌<◌, ◌≤◌, true, false, List, [], ◌∷◌, ◌++◌, length, take, get_or, refl, ap, ◌∙◌, arith, length-append, Result, Ok, Err}
 use borrow.Author.Tests.{lt-leb}
-use lib.ListN.{drop, drop_of_length-le, get_or, length, length-append, take}
-use lib.Seq.{drop-cons, get_or-take}
-use Rattle.digits.proofs.Puts.{decimal_length, puts_both, puts_whole}
-use Rattle.digits.specs.Text.{Line, decimal_text, hex_text, line_at, put, puts}
+use Rattle.std.specs.List.{flat_map}
+use Rattle.digits.proofs.Puts.{decimal_length}
+use Rattle.digits.proofs.Writes.{writes_piece, writes_twice}
+use Rattle.digits.specs.Text.{decimal_text, hex_text, line_at, puts}
+use Rattle.digits.specs.Written.{writes}
+use Rattle.digits.specs.declared.Writer.{Writer}
 use Rattle.log_entry.specs.Entry.{entry_owner, entry_value, log_entry}
-use Rattle.refusal_text.proofs.Line.{numbers_length}
-use Rattle.refusal_text.specs.Refused.{refused_text}
-use Rattle.sequencer.specs.Run.{is_refusal}
-use Rattle.trace_text.specs.declared.Summary.{Summary}
-use Rattle.trace_text.specs.Printed.{
-  end_text,
-  log_size,
-  printed,
-  read_text,
-  reads_text,
-  text_size,
-  unlock_text,
+use Rattle.outcome.specs.Number as number
+use Rattle.outcome.specs.Refused.{ending_number, refusal_number}
+use Rattle.outcome.specs.declared.Ending.{Ending}
+use Rattle.outcome.specs.declared.Ending.TheVariants.{Halted, BudgetSpent, BadWord, BeyondLastWord, NinthCounter, NoCounter, LogFull}
+use Rattle.outcome.specs.declared.RefusalKind.{RefusalKind}
+use Rattle.outcome.specs.declared.RefusalKind.TheVariants.{
+  BadLength,
+  WrongMark,
+  BadKind,
+  BadField,
+  Misplaced,
+  TooDeep,
+  StillOpen,
+  TooManyWords,
+  BufferTooShort,
+  BadImage,
+  BadState,
+  BadEvent,
+  LineTooLong,
+  NotInGrammar,
+  NumberTooBig,
+  RecordsTooShort,
+  TextTooShort,
 }
+use Rattle.outcome.specs.declared.Refused.{Refused}
+use Rattle.refusal_text.proofs.Line.{all_put, numbers_length}
+use Rattle.refusal_text.specs.Refused.{Put}
+use Rattle.sequencer.specs.Run.{is_refusal}
+use Rattle.trace_text.specs.Printed.{end_text, log_size, printed, read_text, reads_text, text_size, unlock_text}
+use Rattle.trace_text.specs.Shown.{shown, summary_of}
+use Rattle.trace_text.specs.declared.RunSummary.{RunSummary}
 
 -- the pieces of a line, put one after the other, are the text of the line
-pub pieces_put : (entry v o : ℕ) (l : Line) → v ≡ entry_value entry → o ≡ entry_owner entry
-    → put 0x0A (puts (decimal_text o) (put 0x20 (puts (hex_text v) (puts (0x52 ∷ 0x45 ∷ 0x41 ∷ 0x44 ∷ 0x20 ∷ []) l))))
-    ≡ puts (read_text entry) l
-pieces_put entry v o l ev eo =
-    let begun = puts (hex_text v) (puts (0x52 ∷ 0x45 ∷ 0x41 ∷ 0x44 ∷ 0x20 ∷ []) l) in
-    sym (puts_both (decimal_text o) (0x0A ∷ []) (put 0x20 begun)) ∙ rw (ev, eo)
+pub pieces_put : (entry v o : ℕ) (w : Writer) → v ≡ entry_value entry → o ≡ entry_owner entry
+    → writes (0x0A ∷ []) (writes (decimal_text o) (writes (0x20 ∷ []) (writes (hex_text v) (writes (0x52 ∷ 0x45 ∷ 0x41 ∷ 0x44 ∷ 0x20 ∷ []) w))))
+    ≡ writes (read_text entry) w
+pieces_put entry v o w ev eo =
+    let name = 0x52 ∷ 0x45 ∷ 0x41 ∷ 0x44 ∷ 0x20 ∷ [] in
+    ap (λ (x : Writer). writes (0x0A ∷ []) (writes (decimal_text o) (writes (0x20 ∷ []) x))) (writes_twice w name (hex_text v))
+    ∙ ap (λ (x : Writer). writes (0x0A ∷ []) (writes (decimal_text o) x)) (writes_twice w (name ++ hex_text v) (0x20 ∷ []))
+    ∙ ap (writes (0x0A ∷ [])) (writes_twice w ((name ++ hex_text v) ++ (0x20 ∷ [])) (decimal_text o))
+    ∙ writes_twice w (((name ++ hex_text v) ++ (0x20 ∷ [])) ++ decimal_text o) (0x0A ∷ [])
+    ∙ rw (ev, eo)
+
+reads_flat : (es : List ℕ) → reads_text es ≡ flat_map read_text es
+reads_flat [] = refl
+reads_flat (e ∷ es) = ap (λ (t : List ℕ). read_text e ++ t) (reads_flat es)
+
+-- the line of the next entry
+pub next_line : (w : Writer) (log : List ℕ) (k : ℕ) → k < length log
+    → writes (read_text (get_or log k 0)) (writes (reads_text (take k log)) w) ≡ writes (reads_text (take (k + 1) log)) w
+next_line w log k h = rw (reads_flat (take k log), reads_flat (take (k + 1) log)) (writes_piece w read_text log k h)
 
 -- the first n entries of a log are at most n entries, and at most the whole log
 at_most : (n : ℕ) (l : List ℕ) → (length (take n l) ≤ n) × (length (take n l) ≤ length l)
 at_most zero l = (omega arith, omega arith)
 at_most (suc n) [] = (omega arith, omega arith)
 at_most (suc n) (x ∷ l) = let h = at_most n l in (omega (arith, h.0), omega (arith, h.1))
-
-inside : (n : ℕ) (l : List ℕ) (k : ℕ) → k < n → k < length l → k < length (take n l)
-inside zero l k a b = absurd (omega (arith, a))
-inside (suc n) [] k a b = b
-inside (suc n) (x ∷ l) zero a b = omega arith
-inside (suc n) (x ∷ l) (suc k) a b = let h = inside n l k (omega (arith, a)) (omega (arith, b)) in omega (arith, h)
-
--- the line of the next entry, and the lines after it
-pub next_line : (n : ℕ) (log : List ℕ) (k : ℕ) (l : Line) → k < n → k < length log
-    → puts (reads_text (drop (suc k) (take n log))) (puts (read_text (get_or log k 0)) l) ≡ puts (reads_text (drop k (take n log))) l
-next_line n log k l a b =
-    ap (λ (e : ℕ). puts (reads_text (drop (suc k) (take n log))) (puts (read_text e) l)) (sym (get_or-take n log k 0 a))
-    ∙ sym (puts_both (read_text (get_or (take n log) k 0)) (reads_text (drop (suc k) (take n log))) l)
-    ∙ sym (ap (λ (es : List ℕ). puts (reads_text es) l) (drop-cons (take n log) k 0 (inside n log k a b)))
-
-pub none_left : (n : ℕ) (log : List ℕ) (k : ℕ) (l : Line) → n ≤ k → puts (reads_text (drop k (take n log))) l ≡ l
-none_left n log k l h =
-    let m = at_most n log in
-    ap (λ (es : List ℕ). puts (reads_text es) l) (drop_of_length-le (take n log) {i = k} (omega (arith, m.0, h)))
-
-pub all_printed : (n : ℕ) (log : List ℕ) (k : ℕ) (l : Line) → length log ≤ k → puts (reads_text (drop k (take n log))) l ≡ l
-all_printed n log k l h =
-    let m = at_most n log in
-    ap (λ (es : List ℕ). puts (reads_text es) l) (drop_of_length-le (take n log) {i = k} (omega (arith, m.1, h)))
 
 -- ---- the longest text has at most `text_size` bytes, so the buffer has room for it
 one_digit_length : (n : ℕ) → n < 10 → length (decimal_text n) ≡ 1
@@ -101,30 +106,52 @@ reads_length (e ∷ es) =
     let h = reads_length es in
     omega (arith, a, r, h)
 
-printed_length : (r : Summary) (log : List ℕ) → length log ≤ log_size → length (printed r log) ≤ text_size
-printed_length r log h = pick (is_refusal r.outcome)
-  where
-    refusal : length (refused_text r.outcome r.place) ≤ text_size
-    refusal = let n = numbers_length r.outcome r.place in omega (arith, n)
+shown_length : (r : Result RunSummary Refused) (log : List ℕ) → length log ≤ log_size → length (shown r log) ≤ text_size
+shown_length (Ok r) log h =
+    let a = length-append (reads_text (take r.logged log)) (end_text (ending_number r.ending) r.steps) in
+    let b = reads_length (take r.logged log) in
+    let m = at_most r.logged log in
+    let n = numbers_length (ending_number r.ending) r.steps in
+    omega (arith, a, b, m.1, n, h)
+shown_length (Err f) log h = let n = numbers_length (refusal_number f.kind) f.place in omega (arith, n)
 
-    run : length (reads_text (take r.logged log) ++ end_text r.outcome r.steps) ≤ text_size
-    run =
-        let a = length-append (reads_text (take r.logged log)) (end_text r.outcome r.steps) in
-        let b = reads_length (take r.logged log) in
-        let m = at_most r.logged log in
-        let n = numbers_length r.outcome r.steps in
-        omega (arith, a, b, m.1, n, h)
+-- so it is put completely
+pub whole : (text after : List ℕ) (n : ℕ) (r : Result RunSummary Refused) (log : List ℕ) → length text ≡ text_size → length log ≤ log_size
+    → line_at after n ≡ puts (shown r log) (line_at text 0) → Put (shown r log) after n
+whole text after n r log l h e =
+    let most = shown_length r log h in
+    all_put (shown r log) text after n (omega (arith, most, l)) e
 
-    pick : (b : Bool)
-        → length (cond b (refused_text r.outcome r.place) (reads_text (take r.logged log) ++ end_text r.outcome r.steps))
-        ≤ text_size
-    pick true = refusal
-    pick false = run
+-- ---- the text is what document 01 says of the numbers of a run and of its refusals; a text is refused with 30 or above
+no_refusal : (e : Ending) → is_refusal (ending_number e) ≡ false
+no_refusal Halted = refl
+no_refusal BudgetSpent = refl
+no_refusal BadWord = refl
+no_refusal BeyondLastWord = refl
+no_refusal NinthCounter = refl
+no_refusal NoCounter = refl
+no_refusal LogFull = refl
 
--- the text is put completely: the index after it is its length
-pub whole : (text : List ℕ) (r : Summary) (log : List ℕ) → length text ≡ text_size → length log ≤ log_size
-    → (puts (printed r log) (line_at text 0)).at ≡ length (printed r log)
-whole text r log l h =
-    let n = printed_length r log h in
-    let w = puts_whole (printed r log) (line_at text 0) (omega (arith, n, l)) in
-    omega (arith, w)
+run_refusal : (k : RefusalKind) → refusal_number k < number.line_too_long → is_refusal (refusal_number k) ≡ true
+run_refusal BadLength h = refl
+run_refusal WrongMark h = refl
+run_refusal BadKind h = refl
+run_refusal BadField h = refl
+run_refusal Misplaced h = refl
+run_refusal TooDeep h = refl
+run_refusal StillOpen h = refl
+run_refusal TooManyWords h = refl
+run_refusal BufferTooShort h = refl
+run_refusal BadImage h = refl
+run_refusal BadState h = refl
+run_refusal BadEvent h = refl
+run_refusal LineTooLong h = absurd (omega (arith, h))
+run_refusal NotInGrammar h = absurd (omega (arith, h))
+run_refusal NumberTooBig h = absurd (omega (arith, h))
+run_refusal RecordsTooShort h = absurd (omega (arith, h))
+run_refusal TextTooShort h = absurd (omega (arith, h))
+
+pub shown_is_printed_lem : (r : Result RunSummary Refused) (log : List ℕ) → (summary_of r).outcome < number.line_too_long
+    → shown r log ≡ printed (summary_of r) log
+shown_is_printed_lem (Ok r) log h = rw (no_refusal r.ending)
+shown_is_printed_lem (Err f) log h = rw (run_refusal f.kind h)

@@ -1,61 +1,70 @@
 // The text that the programs `trace` and `interpret` print: the values that were logged, each with the owner of its port, and the ending, or the
-// refusal. `put_whole` puts all of it into a buffer; the programs write it. specs/Printed.antt defines it.
+// refusal. `print` puts all of it into a buffer and writes it at once. specs/Printed.antt defines it.
 #![tactic(auto)]
 
-ghost use Rattle.std.specs.Prelude.{◌≡◌, length, take};
+ghost use Rattle.std.specs.Prelude.{◌≡◌, ◌<◌, length, take};
 ghost use Rattle.digits.specs.Text.{line_at, puts};
-ghost use Rattle.trace_text.specs.Printed.{read_text, reads_text, end_text, printed, log_size, text_size};
+ghost use Rattle.digits.specs.Written.{writes};
+ghost use Rattle.outcome.specs.Number as number;
+ghost use Rattle.refusal_text.specs.Refused.{Put};
+ghost use Rattle.trace_text.specs.Printed.{read_text, reads_text, end_text, printed};
+ghost use Rattle.trace_text.specs.Shown.{shown, summary_of};
 
-// The numbers of an answer that the text shows. `outcome` is the ending or the number of a refusal, `place` the place of a refusal.
+use digits::Writer;
+use outcome::{Ending, Refused};
+use std::io;
+
+// What the text shows of a run.
 #[derive(Clone, Copy)]
-pub struct Summary {
-    pub outcome: u32,
-    pub place: u32,
+pub struct RunSummary {
+    pub ending: Ending,
     pub steps: u32,
     pub logged: usize,
 }
 
 // Puts the value and the owner of an entry.
-fn put_read(text: &mut [u8], at: usize, entry: u64) -> usize
-    ensures { line_at text.new result ≡ puts (read_text entry) (line_at text.old at) }
+#[tactic(auto, using(digits::proofs::Writes::writes_twice))]
+fn put_read(text: &mut Writer, entry: u64)
+    ensures { text.new ≡ writes (read_text entry) text.old }
 {
-    let a = digits::put_text(text, at, b"READ ");
-    let b = digits::put_hex(text, a, log_entry::value(entry));
-    let c = digits::put(text, b, b' ');
-    let d = digits::put_decimal(text, c, log_entry::owner(entry));
-    digits::put(text, d, b'\n')
+    text.put_text(b"READ ");
+    text.put_hex(log_entry::value(entry));
+    text.put(b' ');
+    text.put_decimal(log_entry::owner(entry));
+    text.put(b'\n');
 }
 
-// Puts a line for each of the first `logged` entries.
-fn put_reads(text: &mut [u8], log: &[u64], logged: usize) -> usize
-    ensures { line_at text.new result ≡ puts (reads_text (take logged log.now)) (line_at text.old 0) }
+// Puts a line for each entry.
+#[tactic(auto, using(digits::proofs::Writes::writes_none, crate::proofs::Lines::next_line))]
+fn put_reads(text: &mut Writer, log: &[u64])
+    ensures { text.new ≡ writes (reads_text log.now) text.old }
 {
-    let mut next: usize = 0;
-    for k in 0..log.len() {
-        if logged <= k {
-            return next;
+    for entry in log {
+        put_read(text, *entry);
+    }
+}
+
+// The outcome is its number, as in the definition `end_text`.
+#[tactic(auto, using(digits::proofs::Writes::writes_twice))]
+fn put_end(text: &mut Writer, outcome: u32, steps: u32)
+    ensures { text.new ≡ writes (end_text outcome steps) text.old }
+{
+    text.put_text(b"END ");
+    refusal_text::put_numbers(text, outcome, steps);
+}
+
+// Puts the whole text.
+#[tactic(auto, using(digits::proofs::Writes::writes_twice, std::proofs::lemmas::List::take_min))]
+fn put_result(text: &mut Writer, summary: Result<RunSummary, Refused>, log: &[u64])
+    ensures { text.new ≡ writes (shown summary log.now) text.old }
+{
+    match summary {
+        Ok(run) => {
+            put_reads(text, &log[..run.logged.min(log.len())]);
+            put_end(text, run.ending.number(), run.steps);
         }
-        next = put_read(text, next, log[k]);
+        Err(refused) => refusal_text::put_refusal(text, refused.kind.number(), refused.place),
     }
-    next
-}
-
-fn put_end(text: &mut [u8], outcome: u32, steps: u32, at: usize) -> usize
-    ensures { line_at text.new result ≡ puts (end_text outcome steps) (line_at text.old at) }
-{
-    let a = digits::put_text(text, at, b"END ");
-    refusal_text::put_numbers(text, a, outcome, steps)
-}
-
-// Puts the whole text and returns its length.
-fn put_result(text: &mut [u8], summary: Summary, log: &[u64]) -> usize
-    ensures { line_at text.new result ≡ puts (printed summary log.now) (line_at text.old 0) }
-{
-    if sequencer::is_refusal(summary.outcome) {
-        return refusal_text::put_refusal(text, summary.outcome, summary.place);
-    }
-    let at = put_reads(text, log, summary.logged);
-    put_end(text, summary.outcome, summary.steps, at)
 }
 
 // The programs run a script with this budget.
@@ -71,10 +80,29 @@ pub const LOG_SIZE: usize = 1024;
 // allows an owner any 32-bit number.
 pub const TEXT_SIZE: usize = 25626;
 
-// The buffer has room for the whole text.
-pub fn put_whole(text: &mut [u8], summary: Summary, log: &[u64]) -> usize
-    requires { (length text.old ≡ text_size) × (length log.now ≡ log_size) }
-    ensures { (result ≡ length (printed summary log.now)) × (line_at text.new result ≡ puts (printed summary log.now) (line_at text.old 0)) }
+// Puts the whole text, for which the buffer has room, and returns its length: `Put` says where the bytes are.
+#[tactic(auto, using(digits::proofs::Writes::writes_same_line))]
+pub fn put_whole(
+    text: &mut [u8; TEXT_SIZE],
+    summary: Result<RunSummary, Refused>,
+    log: &[u64; LOG_SIZE],
+) -> usize
+    ensures whole { Put (shown summary log.now) text.new result }
+    ensures line { line_at text.new result ≡ puts (shown summary log.now) (line_at text.old 0) }
+    ensures printed { (summary_of summary).outcome < number.line_too_long → shown summary log.now ≡ printed (summary_of summary) log.now }
 {
-    put_result(text, summary, log)
+    let mut writer = Writer::new(text);
+    put_result(&mut writer, summary, log);
+    writer.len()
+}
+
+// Prints the text. It is written at once.
+pub fn print(
+    output: &impl Print,
+    summary: Result<RunSummary, Refused>,
+    log: &[u64; LOG_SIZE],
+) -> io::Result<()> {
+    let mut text = [0; TEXT_SIZE];
+    let length = put_whole(&mut text, summary, log);
+    output.write_all(&text[..length])
 }

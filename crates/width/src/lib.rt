@@ -8,26 +8,18 @@ ghost use Rattle.width.specs.Width.{is_width, all_ones, fits_width};
 pub fn is_width(width: u32) -> bool
     ensures { result ≡ is_width width }
 {
-    if width == 1 {
-        return true;
-    }
-    if width == 2 {
-        return true;
-    }
-    width == 4
+    matches!(width, 1 | 2 | 4)
 }
 
 // The largest value of the width. A read with status 1 returns it.
 pub fn all_ones(width: u32) -> u32
     ensures { result ≡ all_ones width }
 {
-    if width == 1 {
-        return 0xFF;
+    match width {
+        1 => 0xFF,
+        2 => 0xFFFF,
+        _ => 0xFFFF_FFFF,
     }
-    if width == 2 {
-        return 0xFFFF;
-    }
-    0xFFFF_FFFF
 }
 
 // Does the value fit the width? Each case has the largest value of its width. The last case is width 4; every `u32` fits it. A number that

@@ -1,25 +1,23 @@
 -- `put_records` puts the output into the front of the buffer: `assembler::assemble` writes the records there, 12 bytes each (Output.antt).
-use Prim.Native.Nat.{◌*◌}
-use mathlib.Core.Path.{ap}
-use native.Mathlib.Omega.{arith}
-use Rattle.assembler.specs.Assemble.{assemble_result}
-use Rattle.assembler.specs.declared.AssembleResult.{AssembleResult}
-use Rattle.assemble.proofs.Output.{fits, put}
+use Rattle.std.proofs.Common.{ap, arith}
+use Rattle.std.proofs.lemmas.Result.{err_from_is_err_and}
+use Rattle.assembler.specs.Assemble.{AssembleResult}
+use Rattle.assemble.proofs.Output.{answered, fits}
 use Rattle.assemble.proofs.put_records.Goals as goal
+
+pub returns-in_err-assemble : goal.returns-in_err-assemble
+returns-in_err-assemble c =
+    let p = err_from_is_err_and c.from_residual.result c.from_residual.ensures.1 in
+    let e = c.in_err-assemble.ensures in
+    rw (p.1, p.2) (answered c.args.text.now c.args.records.now _ _ e.1 c.assemble.auto.records e.0)
 
 pub overflow_mul-result : goal.overflow_mul-result
 overflow_mul-result c =
-    let a = c.args in
-    let e = ap (λ (r : AssembleResult). r.records) c.assemble-r.ensures.0 in
-    omega (arith, e, fits a.text.now a.records.now)
+    let n = ap (λ (r : AssembleResult). r.records) c.in_ok-assemble.ensures.0 in
+    let f = fits c.args.text.now c.args.records.now in
+    omega (arith, n, f)
 
 pub returns : goal.returns
-unfolding assemble_result
 returns c =
-    let a = c.args in
-    let e = c.assemble-r.ensures in
-    record {
-      number = ap (λ (r : AssembleResult). r.refusal) e.0;
-      place = ap (λ (r : AssembleResult). r.place) e.0;
-      written = put a.text.now a.records.now _ _ e.1 c.assemble-r.auto.records (ap (λ (r : AssembleResult). 12 * r.records) e.0);
-    }
+    let e = c.in_ok-assemble.ensures in
+    answered c.args.text.now c.args.records.now _ _ e.1 c.assemble.auto.records e.0

@@ -10,23 +10,23 @@ use Rattle.assembler.proofs.find_line.Goals.{else-loop-k-test, then-loop-k-test+
 pub loop-k-init : goal.loop-k-init
 loop-k-init c = seek_start c.args.text.now c.args.place
 
-pub line_end-end-requires : goal.line_end-end-requires
-line_end-end-requires c = c.loop-k.invariant.inside
+pub line_end-requires : goal.line_end-requires
+line_end-requires c = c.loop-k.invariant.inside
 
 pub next_line-at-requires : goal.next_line-at-requires
 next_line-at-requires c =
     let text = c.args.text.now in
     let l = c.loop-k in
     let i = run_inside not_line_feed text l.at l.invariant.inside in
-    omega (arith, i, c.line_end-end.ensures)
+    omega (arith, i, c.line_end.ensures)
 
 pub loop-k-preserved : goal.loop-k-preserved
 loop-k-preserved c =
     let a = c.args in
     let l = c.loop-k in
-    let end = c.line_end-end in
+    let end = c.line_end in
     let next = c.next_line-at in
-    seek_on a.text.now a.place l.at l.k l.invariant end.result next.result (omega arith)
+    seek_on a.text.now a.place l.at l._k l.invariant end.result next.result (omega arith)
     (omega (arith, c.if-text-at.false))
     end.ensures
     next.ensures.0
@@ -40,6 +40,6 @@ returns c =
     let a = c.args in
     let l = c.loop-k in
     let to = c.line_end-to in
-    seek_end a.text.now a.place l.at l.k l.invariant to.result
+    seek_end a.text.now a.place l.at l._k l.invariant to.result
     (elim c.loop-k-test.branch [ else-loop-k-test w ↦ inl (omega arith) | then-loop-k-test+then-text-at w ↦ inr (omega arith) ])
     to.ensures

@@ -1,10 +1,6 @@
 -- `find_line` goes from line to line. At each turn the line that it looks for is one of those that are left.
-use Prim.Native.Nat.{◌-◌}
 use Rattle.assembler.proofs.FindLine.{Seeking}
 use Rattle.assembler.proofs.find_line.Given as goal
 
 abbrev pub invariant-loop-k : goal.invariant-loop-k
-invariant-loop-k l = Seeking l.text l.place l.at l.k
-
-abbrev pub decreases-loop-k : goal.decreases-loop-k
-decreases-loop-k l = l.place - l.k
+invariant-loop-k l = Seeking l.text l.place l.at l._k

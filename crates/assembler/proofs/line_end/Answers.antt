@@ -1,26 +1,11 @@
--- `line_end` returns the index of the first line feed, or the length. At each turn no byte since `at` is one.
-use mathlib.Core.Path.{refl}
-use borrow.Author.Tests.{eq-eqb, ne_eqb}
-use Rattle.statement.proofs.Runs.{scan_end, scan_on, scan_stop}
-use Rattle.assembler.specs.Assemble.{not_line_feed}
+-- The first byte that is looked for, from `at` on.
+use Rattle.std.proofs.Common.{◌-◌, drop, length, take}
+use Rattle.statement.proofs.Reading.{whole_part}
+use Rattle.assembler.proofs.Ends.{feed_run}
 use Rattle.assembler.proofs.line_end.Goals as goal
 
-pub loop-k-init : goal.loop-k-init
-loop-k-init c = (c.requires, refl)
-
-pub loop-k-preserved : goal.loop-k-preserved
-loop-k-preserved c =
-    let l = c.loop-k in
-    let a = c.args in
-    scan_on not_line_feed a.text.now a.at l.k l.invariant c.loop-k-test.true (rw (ne_eqb _ _ c.if-text-k-eq10.false))
-
-pub returns-after-loop-k : goal.returns-after-loop-k
-returns-after-loop-k c =
-    let a = c.args in
-    scan_end not_line_feed a.text.now a.at c.loop-k.k c.loop-k.invariant c.loop-k-test.false
-
-pub returns-then-text-k-eq10 : goal.returns-then-text-k-eq10
-returns-then-text-k-eq10 c =
-    let l = c.loop-k in
-    let a = c.args in
-    scan_stop not_line_feed a.text.now a.at l.k l.invariant c.loop-k-test.true (rw (eq-eqb _ _ c.if-text-k-eq10.true))
+pub returns : goal.returns
+returns c =
+    let text = c.args.text.now in
+    let at = c.args.at in
+    rw (c.unwrap_or.ensures, c.first_line_feed.ensures, feed_run (take (length text - at) (drop at text)), whole_part text at)

@@ -1,36 +1,41 @@
--- `emit` writes the words of the script to the front of the image. The loop invariant `Emitting`: before each record, the
--- words so far are written, and the rest of the script gives the words that are missing.
-use mathlib.Core.Path.{refl, sym, ◌∙◌}
-use native.Mathlib.Omega.{arith}
+-- `emit` writes the words of the script to the front of the image.
+use Rattle.std.proofs.Common.{None, Some, arith, refl, ◌∙◌}
+use Rattle.std.proofs.lemmas.List.{get_or_default}
 use Rattle.compiler.proofs.Emitting.{begins, completes, goes_on, has_room, passes}
+use Rattle.compiler.proofs.Targets.{kind_known}
 use Rattle.compiler.proofs.emit.Goals as goal
-
-pub fill_targets-requires : goal.fill_targets-requires
-fill_targets-requires c = record { count_value = c.requires.count_value; targets_value = refl }
+use Rattle.compiler.proofs.emit.Goals.{in-Some, in_default}
 
 pub loop-k-init : goal.loop-k-init
-loop-k-init c = begins _ _ _ _ c.requires.count_value.0 c.requires.count_value.1 c.requires.script_in_bounds c.fill_targets.ensures
+loop-k-init c = begins _ _ _ _ refl c.requires.accepted c.requires.room c.fill_targets.ensures.targets c.fill_targets.ensures.words
+
+pub bounds : goal.bounds
+bounds c = let few = c.loop-k.invariant.counted.few in omega arith
+
+pub kind_of-requires : goal.kind_of-requires
+kind_of-requires c = rw c.read-r.ensures (kind_known _ _ c.requires.accepted c.loop-k-test.true)
 
 pub put-requires : goal.put-requires
 put-requires c = has_room c.loop-k.invariant
 
 pub overflow_add-place : goal.overflow_add-place
-overflow_add-place c = omega (arith, has_room c.loop-k.invariant)
-
-pub loop-k-preserved-then-emits_word : goal.loop-k-preserved-then-emits_word
-loop-k-preserved-then-emits_word c =
-    goes_on c.loop-k.invariant c.loop-k-test.true c.read-r.ensures
-    (sym c.emits_word.ensures ∙ c.if-emits_word.true)
-    (rw c.word_kind_for-kind.ensures at c.word.ensures) c.put.ensures c.put.auto.image
+overflow_add-place c = let room = has_room c.loop-k.invariant in omega arith
 
 pub loop-k-preserved : goal.loop-k-preserved
 loop-k-preserved c =
-    passes c.loop-k.invariant c.loop-k-test.true c.read-r.ensures
-    (sym c.emits_word.ensures ∙ c.if-emits_word.false)
+    let g = c.loop-k.invariant in
+    let t = c.loop-k-test.true in
+    -- the definitions read 0 after the end of the table
+    let entry = get_or_default c.fill_targets.new.targets c.loop-k.k (Some 0) None (let few = g.counted.few in omega arith) in
+    elim c.match-targets-k.branch [
+      | in-Some w ↦
+          rw (w.image-is, w.place-is)
+          (goes_on g t c.read-r.ensures (entry ∙ w.in-Some.is) (rw (w.word_kind-kind.ensures, w.kind_of.ensures) at w.word.ensures) w.put.ensures w.put.auto.image)
+      | in_default w ↦ rw (w.image-is, w.place-is) (passes g t c.read-r.ensures (entry ∙ w.in_default.is))
+    ]
 
 pub put-requires-2 : goal.put-requires-2
 put-requires-2 c = has_room c.loop-k.invariant
 
 pub returns : goal.returns
-returns c =
-    completes c.loop-k.invariant c.loop-k-test.false (rw c.word-2.ensures at c.put-2.ensures)
+returns c = completes c.loop-k.invariant c.loop-k-test.false (rw c.word-2.ensures at c.put-2.ensures)

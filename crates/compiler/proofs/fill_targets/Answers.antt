@@ -1,53 +1,40 @@
--- `fill_targets` finds the target of every record. Each kind of record keeps the loop invariant `Filling`. After the last
--- record no block is open, so no target is missing.
-use mathlib.Core.Path.{refl}
-use native.Mathlib.Omega.{arith}
-use Rattle.compiler.proofs.Filling.{begins, elsed, ended, filled, in_block, opened, passed, room, turn, waits_before}
+-- `fill_targets` finds the target of every record. Each kind of record keeps the loop invariant `Filling`.
+use Rattle.std.proofs.Common.{arith, sym, ◌∙◌}
+use Rattle.compiler.proofs.Filling.{begins, elsed, if_ended, passed, plain, repeat_ended, repeated, room, tested}
 use Rattle.compiler.proofs.fill_targets.Goals as goal
+use Rattle.compiler.proofs.fill_targets.Goals.{in-Write, in-Repeat, in-If, in-Else, in-End, then-is_some, else-is_some}
 
 pub loop-k-init : goal.loop-k-init
-loop-k-init c = begins _ _ _ _ _ c.requires.count_value.0 c.requires.count_value.1 c.requires.targets_value refl refl
+loop-k-init c = rw c.new-open.ensures (begins _ _ c.requires.accepted c.requires.empty)
 
-pub bounds-waiting-depth : goal.bounds-waiting-depth
-bounds-waiting-depth c = omega (arith, room (turn c.loop-k.invariant c.loop-k-test.true c.kind_at-kind.ensures) c.if-kind-le-DELAY.false c.if-kind-le-IF.true)
+pub push-requires : goal.push-requires
+push-requires c = (omega arith, room c.loop-k.invariant c.loop-k-test.true (rw (sym (c.in-Repeat.ensures ∙ c.kind_at.ensures))))
 
-pub bounds-starts-depth : goal.bounds-starts-depth
-bounds-starts-depth c = omega (arith, room (turn c.loop-k.invariant c.loop-k-test.true c.kind_at-kind.ensures) c.if-kind-le-DELAY.false c.if-kind-le-IF.true)
-
-pub overflow_sub-test : goal.overflow_sub-test
-overflow_sub-test c = omega (arith, in_block (turn c.loop-k.invariant c.loop-k-test.true c.kind_at-kind.ensures) c.if-kind-le-IF.false)
-
-pub offset_bounds-targets-test : goal.offset_bounds-targets-test
-offset_bounds-targets-test c = omega (arith, waits_before (turn c.loop-k.invariant c.loop-k-test.true c.kind_at-kind.ensures) (in_block (turn c.loop-k.invariant c.loop-k-test.true c.kind_at-kind.ensures) c.if-kind-le-IF.false))
-
-pub bounds-targets-test : goal.bounds-targets-test
-bounds-targets-test c = omega (arith, waits_before (turn c.loop-k.invariant c.loop-k-test.true c.kind_at-kind.ensures) (in_block (turn c.loop-k.invariant c.loop-k-test.true c.kind_at-kind.ensures) c.if-kind-le-IF.false))
-
-pub overflow_sub-waiting : goal.overflow_sub-waiting
-overflow_sub-waiting c = omega (arith, in_block (turn c.loop-k.invariant c.loop-k-test.true c.kind_at-kind.ensures) c.if-kind-le-IF.false)
-
-pub overflow_sub-depth : goal.overflow_sub-depth
-overflow_sub-depth c = omega (arith, in_block (turn c.loop-k.invariant c.loop-k-test.true c.kind_at-kind.ensures) c.if-kind-le-IF.false)
-
-pub offset_bounds-targets-opened : goal.offset_bounds-targets-opened
-offset_bounds-targets-opened c = omega (arith, waits_before (turn c.loop-k.invariant c.loop-k-test.true c.kind_at-kind.ensures) (in_block (turn c.loop-k.invariant c.loop-k-test.true c.kind_at-kind.ensures) c.if-kind-le-IF.false))
-
-pub bounds-targets-opened : goal.bounds-targets-opened
-bounds-targets-opened c = omega (arith, waits_before (turn c.loop-k.invariant c.loop-k-test.true c.kind_at-kind.ensures) (in_block (turn c.loop-k.invariant c.loop-k-test.true c.kind_at-kind.ensures) c.if-kind-le-IF.false))
-
-pub loop-k-preserved-then-kind-le-DELAY : goal.loop-k-preserved-then-kind-le-DELAY
-loop-k-preserved-then-kind-le-DELAY c = passed (turn c.loop-k.invariant c.loop-k-test.true c.kind_at-kind.ensures) c.if-kind-le-DELAY.true
-
-pub loop-k-preserved-then-kind-le-IF : goal.loop-k-preserved-then-kind-le-IF
-loop-k-preserved-then-kind-le-IF c = opened (turn c.loop-k.invariant c.loop-k-test.true c.kind_at-kind.ensures) _ c.if-kind-le-DELAY.false c.if-kind-le-IF.true c.start_of.ensures
-
-pub loop-k-preserved-then-kind-eq-ELSE : goal.loop-k-preserved-then-kind-eq-ELSE
-loop-k-preserved-then-kind-eq-ELSE c = elsed (turn c.loop-k.invariant c.loop-k-test.true c.kind_at-kind.ensures) (in_block (turn c.loop-k.invariant c.loop-k-test.true c.kind_at-kind.ensures) c.if-kind-le-IF.false) c.if-kind-eq-ELSE.true
+pub push-requires-in-If : goal.push-requires-in-If
+push-requires-in-If c = (omega arith, room c.loop-k.invariant c.loop-k-test.true (rw (sym (c.in-If.ensures ∙ c.kind_at.ensures))))
 
 pub loop-k-preserved : goal.loop-k-preserved
 loop-k-preserved c =
-    ended (turn c.loop-k.invariant c.loop-k-test.true c.kind_at-kind.ensures) (in_block (turn c.loop-k.invariant c.loop-k-test.true c.kind_at-kind.ensures) c.if-kind-le-IF.false) _ c.if-kind-le-IF.false
-    c.if-kind-eq-ELSE.false c.place_after_end-after_block.ensures
-
-pub returns : goal.returns
-returns c = filled c.loop-k.invariant c.loop-k-test.false
+    let g = c.loop-k.invariant in
+    let t = c.loop-k-test.true in
+    elim c.match-kind_of.branch [
+      | in-Write w ↦
+          let l = plain c.kind_of.result w.in-Write.is in
+          rw (w.targets-is, w.open-is, w.place-is) (passed g t (omega (arith, l, c.kind_of.ensures, c.kind_at.ensures)))
+      | in-Repeat w ↦
+          rw (w.targets-is, w.open-is, w.place-is, w.push.ensures) (repeated g t (sym (w.in-Repeat.ensures ∙ c.kind_at.ensures)))
+      | in-If w ↦
+          rw (w.targets-is, w.open-is, w.place-is, w.push-in-If.ensures) (tested g t (sym (w.in-If.ensures ∙ c.kind_at.ensures)))
+      | in-Else w ↦
+          let popped = rw w.unwrap-test.ensures at w.pop.ensures.some in
+          rw (w.targets-is, w.open-is, w.place-is, w.push-in-Else.ensures)
+          (elsed (rw popped at g) t (sym (w.in-Else.ensures ∙ c.kind_at.ensures)))
+      | in-End w ↦
+          let popped = rw w.unwrap-opened.ensures at w.pop-in-End.ensures.some in
+          let e = sym (w.in-End.ensures ∙ c.kind_at.ensures) in
+          rw (w.targets-is, w.open-is, w.place-is)
+          (elim w.if-is_some.branch [
+            | then-is_some v ↦ rw v.place-is (repeat_ended (rw popped at g) t e (sym v.if-is_some.ensures))
+            | else-is_some v ↦ rw v.place-is (if_ended (rw popped at g) t e (sym v.if-is_some.ensures))
+          ])
+    ]

@@ -1,58 +1,18 @@
--- `record::write` stores the 12 bytes of `bytes_of`, one after the other, and leaves the rest unchanged.
-use lib.ListN.{length-set}
-use lib.Seq.{sets-eq}
-use native.Mathlib.Omega.{arith}
+-- `record::write` puts the 12 bytes of `bytes_of` in front of the rest: those that `to_le_bytes` gives of each field.
+use mathlib.Core.Path.{◌∙◌}
+use Rattle.little_endian.proofs.Std.{four_bytes_of}
 use Rattle.record.specs.Record.{bytes_of}
 use Rattle.record.proofs.write.Goals as goal
-
-pub bounds-part-1 : goal.bounds-part-1
-bounds-part-1 c = simp length-set (omega arith)
-
-pub bounds-part-2 : goal.bounds-part-2
-bounds-part-2 c = simp length-set (omega arith)
-
-pub bounds-part-3 : goal.bounds-part-3
-bounds-part-3 c = simp length-set (omega arith)
-
-pub bounds-part-4 : goal.bounds-part-4
-bounds-part-4 c = simp length-set (omega arith)
-
-pub bounds-part-5 : goal.bounds-part-5
-bounds-part-5 c = simp length-set (omega arith)
-
-pub bounds-part-6 : goal.bounds-part-6
-bounds-part-6 c = simp length-set (omega arith)
-
-pub bounds-part-7 : goal.bounds-part-7
-bounds-part-7 c = simp length-set (omega arith)
-
-pub bounds-part-8 : goal.bounds-part-8
-bounds-part-8 c = simp length-set (omega arith)
-
-pub bounds-part-9 : goal.bounds-part-9
-bounds-part-9 c = simp length-set (omega arith)
-
-pub bounds-part-10 : goal.bounds-part-10
-bounds-part-10 c = simp length-set (omega arith)
-
-pub bounds-part-11 : goal.bounds-part-11
-bounds-part-11 c = simp length-set (omega arith)
 
 pub returns : goal.returns
 unfolding bytes_of
 returns c =
-    simp (
-      c.byte0.ensures,
-      c.byte1.ensures,
-      c.byte0-2.ensures,
-      c.byte0-3.ensures,
-      c.byte0-4.ensures,
-      c.byte1-2.ensures,
-      c.byte0-5.ensures,
-      c.byte1-3.ensures,
-      c.byte0-6.ensures,
-      c.byte1-4.ensures,
-      c.byte2.ensures,
-      c.byte3.ensures,
+    rw (
+      c.copy_from_slice.ensures.after,
+      c.to_le_bytes.ensures ∙ four_bytes_of c.args.word.mark,
+      c.to_le_bytes-2.ensures ∙ four_bytes_of c.args.word.kind,
+      c.to_le_bytes-3.ensures ∙ four_bytes_of c.args.word.width,
+      c.to_le_bytes-4.ensures ∙ four_bytes_of c.args.word.port,
+      c.to_le_bytes-5.ensures ∙ four_bytes_of c.args.word.target,
+      c.to_le_bytes-6.ensures ∙ four_bytes_of c.args.word.value,
     )
-    (sets-eq (bytes_of c.args.word) c.args.part.now 0 c.requires)

@@ -1,21 +1,12 @@
--- `scan_records` returns `records_scan`. The outer loop keeps `ScanInvariant`. The inner loop keeps the number of repeats among
--- the first `b` open blocks, which is below 8.
-use Prim.Native.Nat.{◌-◌, ◌≤◌, ◌<◌}
-use mathlib.Core.Path.{◌≡◌}
-use Rattle.lists.specs.Stack.{stack_of}
+-- Before each record the loop keeps `ScanInvariant`. The walk keeps the number of repeats among the blocks that it has seen, which is below 8.
+use Rattle.std.specs.Prelude.{◌≡◌, ◌<◌, count_by, take}
+use Rattle.script.specs.Blocks.{open_numbers}
+use Rattle.script.proofs.Blocks.{is_repeat}
 use Rattle.script.proofs.Scanning.{ScanInvariant}
-use Rattle.script.specs.Refusals.{repeats_in}
 use Rattle.script.proofs.scan_records.Given as goal
 
-abbrev pub invariant-loop-b : goal.invariant-loop-b
-invariant-loop-b l =
-    (l.b ≤ l.searched) × (l.repeats ≡ repeats_in (stack_of l.b l.blocks)) × (l.repeats < 8) × (l.number ≡ 0)
+abbrev pub invariant-loop-place : goal.invariant-loop-place
+invariant-loop-place l = ScanInvariant l.script l.count (open_numbers l.blocks) l.words l.place
 
-abbrev pub decreases-loop-b : goal.decreases-loop-b
-decreases-loop-b l = l.searched - l.b
-
-abbrev pub invariant-scan : goal.invariant-scan
-invariant-scan l = ScanInvariant l.script l.count l.blocks l.depth l.words l.number l.k
-
-abbrev pub decreases-scan : goal.decreases-scan
-decreases-scan l = l.count - l.k
+abbrev pub invariant-loop-block : goal.invariant-loop-block
+invariant-loop-block l = (l.repeats ≡ count_by is_repeat (take l.block-index l.block-items)) × (l.repeats < 8)

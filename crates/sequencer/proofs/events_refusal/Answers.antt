@@ -1,46 +1,21 @@
--- `events_refusal` is `events_refusal`. The loop invariant: the first bad event of the list is the first from k on
--- (FirstBad.antt).
-use borrow.Author.Tests.{not-true, not-false}
-use Rattle.sequencer.proofs.FirstBad.{bad_here, bad_further, bad_none}
+-- `events_refusal` is `events_refusal`: the chain finds the first bad event (FirstBad.antt).
+use Rattle.std.proofs.Common.{rules, not}
+use Rattle.std.proofs.lemmas.Iterator.{YieldsList-from_slice}
+use Rattle.std.proofs.lemmas.Iterator.Search.{position_from_yields_List}
+use borrow.Author.Tests.{tests, le-ltb}
+use Rattle.device.specs.Event.{is_event}
+use Rattle.sequencer.proofs.FirstBad.{first_bad_found}
 use Rattle.sequencer.specs.Run.{events_refusal}
-use native.Mathlib.Omega.{arith}
-use mathlib.Core.Path.{refl, sym, ◌∙◌}
-use borrow.Author.Tests.{le-ltb, lt-ltb}
 use Rattle.sequencer.proofs.events_refusal.Goals as goal
 
-pub returns-then-events-gt-MOST_EVENTS : goal.returns-then-events-gt-MOST_EVENTS
+pub returns-in-Some : goal.returns-in-Some
 unfolding events_refusal
-returns-then-events-gt-MOST_EVENTS c = simp (lt-ltb _ _ c.if-events-gt-MOST_EVENTS.true)
+returns-in-Some c =
+    let p = position_from_yields_List (λ e. not (is_event e)) _ _ c.position.result c.position.ensures.ran (YieldsList-from_slice c.args.events.now cc) (λ x b q k. search (rules, tests)) in
+    rw (le-ltb _ _ c.if-events-gt-MOST_EVENTS.false, first_bad_found c.args.events.now, ← p, c.in-Some.is)
 
-pub loop-k-init : goal.loop-k-init
-loop-k-init c = (omega arith, omega arith, refl)
-
-pub bounds-events-k : goal.bounds-events-k
-bounds-events-k c = omega arith
-
-pub overflow_cast-result : goal.overflow_cast-result
-overflow_cast-result c = omega arith
-
-pub returns-then-not-is_event : goal.returns-then-not-is_event
+pub returns-in-None : goal.returns-in-None
 unfolding events_refusal
-returns-then-not-is_event c =
-    let b = sym c.is_event.ensures ∙ not-true _ c.if-not-is_event.true-raw in
-    rw (le-ltb _ _ c.if-events-gt-MOST_EVENTS.false, c.loop-k.invariant.2, bad_here _ _ c.loop-k-test.true b)
-
-pub overflow_add-k : goal.overflow_add-k
-overflow_add-k c = omega arith
-
-pub loop-k-smaller : goal.loop-k-smaller
-loop-k-smaller c = omega arith
-
-pub loop-k-preserved : goal.loop-k-preserved
-loop-k-preserved c =
-    let b = sym c.is_event.ensures ∙ not-false _ c.if-not-is_event.false-raw in (
-      omega arith,
-      c.loop-k.invariant.1,
-      c.loop-k.invariant.2 ∙ bad_further _ _ c.loop-k-test.true b,
-    )
-
-pub returns : goal.returns
-unfolding events_refusal
-returns c = rw (le-ltb _ _ c.if-events-gt-MOST_EVENTS.false, c.loop-k.invariant.2, bad_none _ _ c.loop-k-test.false)
+returns-in-None c =
+    let p = position_from_yields_List (λ e. not (is_event e)) _ _ c.position.result c.position.ensures.ran (YieldsList-from_slice c.args.events.now cc) (λ x b q k. search (rules, tests)) in
+    rw (le-ltb _ _ c.if-events-gt-MOST_EVENTS.false, first_bad_found c.args.events.now, ← p, c.in-None.is)

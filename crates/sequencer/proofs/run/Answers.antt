@@ -1,21 +1,24 @@
 -- `run` returns `run_answer` and leaves `log_after` in the log: one case for a refusal and one for the run (Answers.antt).
-use Rattle.sequencer.proofs.Answers.{allowed, done, few_words_lem, not_refused, refused}
+use Rattle.std.proofs.Common.{ap, sym}
+use Rattle.std.proofs.lemmas.Result.{err_from_is_err_and}
+use Rattle.outcome.specs.Refusal.{Refusal}
+use Rattle.sequencer.proofs.Answers.{allowed, done, few_words_lem, refused}
 use Rattle.sequencer.proofs.run.Goals as goal
 
-pub returns-then-refusal-ne0 : goal.returns-then-refusal-ne0
-returns-then-refusal-ne0 c =
+pub returns-in_err-run_refusal-clause-value : goal.returns-in_err-run_refusal-clause-value
+returns-in_err-run_refusal-clause-value c =
     let e = c.args in
-    refused e.image.now e.device e.sequencer e.events.now e.budget e.log.now c.run_refusal-refusal.result c.run_refusal-refusal.ensures c.if-refusal-ne0.true
+    let p = err_from_is_err_and c.from_residual.result c.from_residual.ensures.1 in
+    rw (p.1, p.2)
+    (refused e.image.now e.device e.sequencer e.events.now e.budget e.log.now c.in_err-run_refusal.field-0.0 c.in_err-run_refusal.ensures)
 
 pub run_words-requires : goal.run_words-requires
 run_words-requires c =
     let e = c.args in
-    let n = not_refused e.image.now e.device e.sequencer e.events.now c.run_refusal-refusal.result c.run_refusal-refusal.ensures c.if-refusal-ne0.false in
-    let a = allowed e.image.now e.device e.sequencer e.events.now n in
+    let a = allowed e.image.now e.device e.sequencer e.events.now (ap (λ (x : Refusal). x.number) (sym c.in_ok-run_refusal.ensures)) in
     (few_words_lem e.image.now a.image_good, a.sequencer_good)
 
-pub returns : goal.returns
-returns c =
+pub returns-clause-value : goal.returns-clause-value
+returns-clause-value c =
     let e = c.args in
-    let n = not_refused e.image.now e.device e.sequencer e.events.now c.run_refusal-refusal.result c.run_refusal-refusal.ensures c.if-refusal-ne0.false in
-    done e.image.now e.device e.sequencer e.events.now e.budget e.log.now _ _ n c.run_words.ensures
+    done e.image.now e.device e.sequencer e.events.now e.budget e.log.now _ _ (ap (λ (x : Refusal). x.number) (sym c.in_ok-run_refusal.ensures)) c.run_words.ensures

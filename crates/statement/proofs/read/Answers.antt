@@ -8,7 +8,7 @@ use Rattle.statement.proofs.Reading.{content_inside, content_is}
 use Rattle.statement.proofs.read.Goals as goal
 
 pub returns-then-line-gt-MOST_BYTES : goal.returns-then-line-gt-MOST_BYTES
-returns-then-line-gt-MOST_BYTES c = c.without_record.ensures ∙ long_line c.args.line.now c.if-line-gt-MOST_BYTES.true
+returns-then-line-gt-MOST_BYTES c = long_line c.args.line.now c.if-line-gt-MOST_BYTES.true
 
 pub slice_bounds-read_statement-end : goal.slice_bounds-read_statement-end
 slice_bounds-read_statement-end c =

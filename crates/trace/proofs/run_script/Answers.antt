@@ -1,30 +1,57 @@
--- `run_script` returns `trace_summary` and leaves `trace_log` in the log: one case for a refusal by the compiler, one for the run of the words written.
-use mathlib.Core.Path.{ap, sym, ◌∙◌}
-use native.Mathlib.Omega.{arith}
-use borrow.Author.Tests.{eq-eqb, ne_eqb}
-use Rattle.compiler.specs.declared.CompileResult.{CompileResult}
-use Rattle.correct.proofs.WholeRun.{words_fit}
-use Rattle.trace.specs.Trace.{trace_log, trace_summary}
+-- `run_script` answers what `trace_summary` and `trace_log` say (Running.antt).
+use Rattle.std.proofs.Common.{sym, length-take-le, Ok}
+use Rattle.std.proofs.lemmas.Result.{err_from_is_err_and}
+use Rattle.correct.proofs.WholeRun.{counted_words_fit}
+use Rattle.trace.proofs.Printing.{printed_lem}
+use Rattle.trace.proofs.Running.{ran, refused}
+use Rattle.trace_text.specs.declared.RunSummary.{RunSummary}
 use Rattle.trace.proofs.run_script.Goals as goal
 
-pub returns-then-compiled-ne0 : goal.returns-then-compiled-ne0
-unfolding trace_summary trace_log
-returns-then-compiled-ne0 c =
-    let e = c.compile-compiled.ensures.0 in
-    let n = ne_eqb _ _ (λ z. c.if-compiled-ne0.true (ap (λ (x : CompileResult). x.refusal) e ∙ z)) in
-    (rw (n, e), rw n)
+pub returns-in_err-words-clause-summary : goal.returns-in_err-words-clause-summary
+returns-in_err-words-clause-summary c =
+    let p = err_from_is_err_and c.from_residual.result c.from_residual.ensures.1 in
+    rw (p.1, p.2) (refused c.args.script.now c.args.image.now c.args.log.now c.in_err-words.field-0.0 c.in_err-words.ensures.0).0
 
-pub run_words-requires : goal.run_words-requires
-run_words-requires c =
-    let e = c.compile-compiled.ensures.0 in
-    let f = words_fit c.args.script.now c.args.image.now (sym (ap (λ (x : CompileResult). x.refusal) e) ∙ c.if-compiled-ne0.false) in
-    let w = ap (λ (x : CompileResult). x.words) e in
-    (omega (arith, f.0, w, c.compile-compiled.auto.image), omega (arith, f.1, w))
+pub returns-in_err-words-clause-log : goal.returns-in_err-words-clause-log
+returns-in_err-words-clause-log c =
+    (refused c.args.script.now c.args.image.now c.args.log.now c.in_err-words.field-0.0 c.in_err-words.ensures.0).1
 
-pub returns : goal.returns
-unfolding trace_summary trace_log
-returns c =
-    let e = c.compile-compiled.ensures in
-    let z = eq-eqb _ _ (sym (ap (λ (x : CompileResult). x.refusal) e.0) ∙ c.if-compiled-ne0.false) in
-    let r = rw (e.1, e.0) at c.run_words.ensures in
-    (r.0 ∙ rw z, r.1 ∙ rw z)
+pub returns-in_err-words-clause-printed : goal.returns-in_err-words-clause-printed
+returns-in_err-words-clause-printed c =
+    printed_lem c.args.script.now c.args.image.now c.args.log.now _ c.from_residual.result (returns-in_err-words-clause-summary c)
+
+pub slice_bounds-run-end : goal.slice_bounds-run-end
+slice_bounds-run-end c =
+    counted_words_fit c.args.script.now c.args.image.now _ c.in_ok-words.words c.in_ok-words.ensures.0 c.compile.auto.image
+
+pub slice_bounds-run-end-2 : goal.slice_bounds-run-end-2
+slice_bounds-run-end-2 c =
+    sym (length-take-le _ _ (counted_words_fit c.args.script.now c.args.image.now _ c.in_ok-words.words c.in_ok-words.ensures.0 c.compile.auto.image))
+
+pub returns-in_err-run-clause-summary : goal.returns-in_err-run-clause-summary
+returns-in_err-run-clause-summary c =
+    let p = err_from_is_err_and c.from_residual-in_err-run.result c.from_residual-in_err-run.ensures.1 in
+    rw (p.1, p.2)
+    (ran c.args.script.now c.args.image.now c.args.log.now c.in_ok-words.words c.in_ok-words.ensures.0 _ _ _ _ _ c.compile.ensures.1 c.fresh.ensures c.fresh-2.ensures c.in_err-run.ensures.value.0 c.run.ensures.value.1).0
+
+pub returns-in_err-run-clause-log : goal.returns-in_err-run-clause-log
+returns-in_err-run-clause-log c =
+    (ran c.args.script.now c.args.image.now c.args.log.now c.in_ok-words.words c.in_ok-words.ensures.0 _ _ _ _ _ c.compile.ensures.1 c.fresh.ensures c.fresh-2.ensures c.run.ensures.value.0 c.run.ensures.value.1).1
+
+pub returns-in_err-run-clause-printed : goal.returns-in_err-run-clause-printed
+returns-in_err-run-clause-printed c =
+    printed_lem c.args.script.now c.args.image.now c.args.log.now _ c.from_residual-in_err-run.result (returns-in_err-run-clause-summary c)
+
+pub returns-clause-summary : goal.returns-clause-summary
+returns-clause-summary c =
+    (ran c.args.script.now c.args.image.now c.args.log.now c.in_ok-words.words c.in_ok-words.ensures.0 _ _ _ _ _ c.compile.ensures.1 c.fresh.ensures c.fresh-2.ensures c.in_ok-run.ensures.value.0 c.run.ensures.value.1).0
+
+pub returns-clause-log : goal.returns-clause-log
+returns-clause-log c =
+    (ran c.args.script.now c.args.image.now c.args.log.now c.in_ok-words.words c.in_ok-words.ensures.0 _ _ _ _ _ c.compile.ensures.1 c.fresh.ensures c.fresh-2.ensures c.run.ensures.value.0 c.run.ensures.value.1).1
+
+pub returns-clause-printed : goal.returns-clause-printed
+returns-clause-printed c =
+    let r = c.in_ok-run.run' in
+    let summary : RunSummary = record { ending = r.ending; steps = r.steps; logged = r.logged } in
+    printed_lem c.args.script.now c.args.image.now c.args.log.now _ (Ok summary) (returns-clause-summary c)

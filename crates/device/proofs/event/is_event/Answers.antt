@@ -1,12 +1,23 @@
--- `is_event` returns `is_event`: it checks the kind and then the operand.
-use borrow.Author.Tests.{eq-eqb, ne_eqb}
-use Rattle.device.specs.Event.{is_event}
+-- `is_event` returns `is_event`: a kind that has a name is in the table, and its operand is compared.
+use Rattle.std.proofs.Common.{◌≡◌, false, refl}
+use lib.Dec.{eqb}
+use Rattle.device.specs.Event.{event_block, is_event}
+use Rattle.device.specs.EventKinds.{event_kind_number}
+use Rattle.device.specs.Owner.{nobody}
+use Rattle.device.specs.declared.event.EventKind.{EventKind}
+use Rattle.device.specs.declared.event.EventKind.TheVariants.{Ticks, Pin, RtcAlarm, BusMaster, Sensor, Reset, Button}
 use Rattle.device.proofs.event.is_event.Goals as goal
 
-pub returns-then-row-eq-NOBODY : goal.returns-then-row-eq-NOBODY
-unfolding is_event
-returns-then-row-eq-NOBODY c = simp (← c.kind_row-row.ensures.0, eq-eqb _ _ c.if-row-eq-NOBODY.true)
+in_table : (k : EventKind) → eqb (event_block (event_kind_number k)) nobody ≡ false
+unfolding event_block
+in_table Ticks = refl
+in_table Pin = refl
+in_table RtcAlarm = refl
+in_table BusMaster = refl
+in_table Sensor = refl
+in_table Reset = refl
+in_table Button = refl
 
-pub returns : goal.returns
+pub returns-in-Ok : goal.returns-in-Ok
 unfolding is_event
-returns c = simp (← c.kind_row-row.ensures.0, ne_eqb _ _ c.if-row-eq-NOBODY.false, ← c.kind_row-row.ensures.1)
+returns-in-Ok c = rw (← c.in-Ok.ensures, in_table c.in-Ok.kind, c.greatest_operand.ensures)

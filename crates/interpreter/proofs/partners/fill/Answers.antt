@@ -1,43 +1,31 @@
 -- `fill` makes the table of the script: each record keeps the loop invariant `Filling`.
+use Prim.Native.Nat.{◌-◌}
+use mathlib.Core.Path.{refl, ◌∙◌}
 use native.Mathlib.Omega.{arith}
-use Rattle.script.proofs.Records.{counts}
-use Rattle.interpreter.proofs.Filling.{adds, begins, ends, passes, room}
+use Rattle.script.proofs.Records.{few_records_lem}
+use Rattle.script.proofs.Flat.{accepts}
+use Rattle.interpreter.proofs.Filling.{adds, ends, room}
+use Rattle.interpreter.proofs.Waiting.{kind_known}
 use Rattle.interpreter.proofs.partners.fill.Goals as goal
 
-pub loop-k-init : goal.loop-k-init
-loop-k-init c = begins _ _ _ c.requires.2
+pub overflow_cast-count : goal.overflow_cast-count
+overflow_cast-count c = let few = few_records_lem c.args.script.now (accepts c.args.script.now c.requires.0).length_good in omega (arith, few)
 
-pub overflow_sub-k : goal.overflow_sub-k
-overflow_sub-k c = omega arith
+pub kind_of-kind-requires : goal.kind_of-kind-requires
+kind_of-kind-requires c =
+    let l = c.loop-place.invariant.within in
+    rw c.kind_at.ensures (kind_known c.args.script.now c.requires.0 (c.loop-place.place - 1) (omega (arith, l, c.loop-place-test.true)))
 
-pub overflow_mul-k : goal.overflow_mul-k
-overflow_mul-k c = omega arith
-
-pub kind_at-kind-requires : goal.kind_at-kind-requires
-kind_at-kind-requires c = omega arith
-
-pub add_record-depth-requires : goal.add_record-depth-requires
-add_record-depth-requires c =
-    let l = c.loop-k in
-    let p = c.requires in (
-      omega (arith, l.invariant.within, (counts _ _ p.1 p.0).few),
-      room _ l.invariant p.0 p.1 c.loop-k-test.true c.kind_at-kind.ensures c.if-kind-gt-DELAY.true,
-      l.invariant.array,
+pub add_record-requires : goal.add_record-requires
+add_record-requires c =
+    let few = few_records_lem c.args.script.now (accepts c.args.script.now c.requires.0).length_good in (
+      omega (arith, few, c.loop-place.invariant.within, c.loop-place-test.true),
+      room _ c.loop-place.invariant c.requires.0 refl c.loop-place-test.true (c.kind_of-kind.ensures ∙ c.kind_at.ensures),
     )
 
-pub loop-k-smaller-then-kind-gt-DELAY : goal.loop-k-smaller-then-kind-gt-DELAY
-loop-k-smaller-then-kind-gt-DELAY c = omega arith
-
-pub loop-k-preserved-then-kind-gt-DELAY : goal.loop-k-preserved-then-kind-gt-DELAY
-loop-k-preserved-then-kind-gt-DELAY c =
-    adds _ _ _ _ c.loop-k.invariant c.loop-k-test.true c.kind_at-kind.ensures c.if-kind-gt-DELAY.true c.add_record-depth.ensures
-
-pub loop-k-smaller : goal.loop-k-smaller
-loop-k-smaller c = omega arith
-
-pub loop-k-preserved : goal.loop-k-preserved
-loop-k-preserved c =
-    passes _ c.loop-k.invariant c.loop-k-test.true c.kind_at-kind.ensures c.if-kind-gt-DELAY.false
+pub loop-place-preserved : goal.loop-place-preserved
+loop-place-preserved c =
+    adds _ _ _ c.loop-place.invariant c.loop-place-test.true (c.kind_of-kind.ensures ∙ c.kind_at.ensures) c.add_record.ensures.added c.add_record.ensures.places
 
 pub returns : goal.returns
-returns c = ends c.loop-k.invariant c.requires.1 c.loop-k-test.false
+returns c = ends c.loop-place.invariant refl c.loop-place-test.false

@@ -2,8 +2,5 @@
 use Rattle.interpreter.proofs.Filling.{Filling}
 use Rattle.interpreter.proofs.partners.fill.Given as goal
 
-abbrev pub invariant-loop-k : goal.invariant-loop-k
-invariant-loop-k l = Filling l.script l.count l.partners l.closers l.depth l.k
-
-abbrev pub decreases-loop-k : goal.decreases-loop-k
-decreases-loop-k l = l.k
+abbrev pub invariant-loop-place : goal.invariant-loop-place
+invariant-loop-place l = Filling l.script l.count l.table l.closers l.place

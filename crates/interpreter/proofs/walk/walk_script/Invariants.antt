@@ -8,7 +8,7 @@ use Rattle.interpreter.proofs.walk.walk_script.Given as goal
 
 abbrev pub invariant-loop-steps : goal.invariant-loop-steps
 invariant-loop-steps l =
-    Walking l.script l.partners (script_walk l.script l.initial.last.device l.events l.budget (length l.initial.log)) l.events l.initial.log l.budget l.log l.last.device l.position
+    Walking l.script l.partners (script_walk l.script l.fn.device l.events l.budget (length l.initial.log)) l.events l.initial.log l.budget l.log l.last.device l.position
     l.counters l.steps
 
 abbrev pub decreases-loop-steps : goal.decreases-loop-steps

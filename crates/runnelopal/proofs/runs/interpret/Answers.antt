@@ -1,14 +1,23 @@
--- `interpret` refuses bytes that hold no device, and otherwise leaves what `interpret_held` leaves.
-use mathlib.Core.Path.{sym, ◌∙◌}
-use borrow.Author.Tests.{not-false}
-use Rattle.runnelopal.proofs.SavedCalls.{device_held, no_device_for_script}
+-- `interpret` leaves what `saved_interpret` says: bytes that hold no device are refused, and so is a script on the device that they hold, or it ends.
+use Rattle.runnelopal.proofs.SavedCalls.{interpret_ended, interpret_refused, no_device_for_script}
 use Rattle.runnelopal.proofs.runs.interpret.Goals as goal
 
-pub returns-then-not-holds_device : goal.returns-then-not-holds_device
-returns-then-not-holds_device c = search no_device_for_script
+pub returns-in_default : goal.returns-in_default
+returns-in_default c =
+    let e = c.args in
+    rw c.from.ensures
+    (no_device_for_script e.script.now e.device.now e.events.now e.budget e.log.now _ c.unheld_script_refusal.ensures c.in_default.ensures.err)
 
-pub interpret_held-requires : goal.interpret_held-requires
-interpret_held-requires c = sym c.holds_device.ensures ∙ not-false _ c.if-not-holds_device.false-raw
+pub returns-in-Ok-interpret : goal.returns-in-Ok-interpret
+returns-in-Ok-interpret c =
+    let e = c.args in
+    let d = c.in-Ok.ensures.ok in
+    rw (c.ended.ensures, c.save.ensures.bytes)
+    (interpret_ended e.script.now e.device.now e.events.now e.budget e.log.now _ d.0 d.1 c.in-Ok-interpret.r c.in-Ok-interpret.ensures.value)
 
-pub returns : goal.returns
-returns c = search device_held
+pub returns-in-Err : goal.returns-in-Err
+returns-in-Err c =
+    let e = c.args in
+    let d = c.in-Ok.ensures.ok in
+    rw c.from-in-Err.ensures
+    (interpret_refused e.script.now e.device.now e.events.now e.budget e.log.now _ d.0 d.1 c.in-Err.refused c.in-Err.ensures.value c.in-Err.ensures.refused)

@@ -1,29 +1,32 @@
--- `call::access` replies `saved_access` and leaves `bytes_after_access` in the bytes. proofs/Calls.antt has its three cases.
-use mathlib.Core.Path.{sym, ◌∙◌}
-use borrow.Author.Tests.{not-false, not-true}
-use Rattle.state.proofs.Calls.{access_made_lem, access_refused_lem, access_unheld}
-use Rattle.state.proofs.Slices.{holds_length}
+-- `call::access` replies `saved_access` and leaves `bytes_after_access` in the bytes. proofs/Calls.antt has its cases.
+use Rattle.std.proofs.lemmas.Result.{err_from_is_err_and}
+use Rattle.state.proofs.Calls.{access_made_lem, access_refused_lem, access_unheld, room_to_save}
 use Rattle.state.proofs.call.access.Goals as goal
 
-pub returns-then-not-holds_device : goal.returns-then-not-holds_device
-returns-then-not-holds_device c = let h = sym c.holds_device.ensures ∙ not-true c.holds_device.result c.if-not-holds_device.true-raw in
-    let p = access_unheld c.args.bytes.now c.args.access h in
-    (c.refused.ensures ∙ p.0, p.1)
+pub returns-in_err-load-clause-reply : goal.returns-in_err-load-clause-reply
+returns-in_err-load-clause-reply c =
+    let p = err_from_is_err_and c.from_residual.result c.from_residual.ensures.1 in
+    rw (p.1, p.2) (access_unheld _ c.args.access c.in_err-load.field-0.0 c.in_err-load.ensures.value c.in_err-load.ensures.err).0
 
-pub read_from-device-requires : goal.read_from-device-requires
-read_from-device-requires c = holds_length _ (sym c.holds_device.ensures ∙ not-false c.holds_device.result c.if-not-holds_device.false-raw)
+pub returns-in_err-load-clause-bytes : goal.returns-in_err-load-clause-bytes
+returns-in_err-load-clause-bytes c = (access_unheld _ c.args.access c.in_err-load.field-0.0 c.in_err-load.ensures.value c.in_err-load.ensures.err).1
 
-pub returns-then-refusal-ne0 : goal.returns-then-refusal-ne0
-returns-then-refusal-ne0 c = let h = sym c.holds_device.ensures ∙ not-false c.holds_device.result c.if-not-holds_device.false-raw in
-    let e = sym (rw c.read_from-device.ensures at c.access_refusal-refusal.ensures) in
-    let p = access_refused_lem c.args.bytes.now c.args.access _ h e c.if-refusal-ne0.true in
-    (c.refused-then-refusal-ne0.ensures ∙ p.0, p.1)
+pub returns-in_err-made-clause-reply : goal.returns-in_err-made-clause-reply
+returns-in_err-made-clause-reply c =
+    let p = err_from_is_err_and c.from_residual-in_err-made.result c.from_residual-in_err-made.ensures.1 in
+    rw (p.1, p.2) (access_refused_lem _ c.args.access c.in_err-made.field-0.0 c.in_ok-load.ensures.ok.0 (rw c.in_ok-load.ensures.ok.1 at c.in_err-made.ensures)).0
 
-pub returns : goal.returns
-returns c = let h = sym c.holds_device.ensures ∙ not-false c.holds_device.result c.if-not-holds_device.false-raw in
-    let d = c.read_from-device.ensures in
-    let e = sym (rw d at c.access_refusal-refusal.ensures) ∙ c.if-refusal-ne0.false in
-    let p = access_made_lem c.args.bytes.now c.args.access h e in (
-      rw (c.done.ensures, c.outputs-outputs.ensures, c.access-made.ensures, d) p.0,
-      rw (c.save.ensures.1, c.access-made.ensures, d) p.1,
-    )
+pub returns-in_err-made-clause-bytes : goal.returns-in_err-made-clause-bytes
+returns-in_err-made-clause-bytes c = (access_refused_lem _ c.args.access c.in_err-made.field-0.0 c.in_ok-load.ensures.ok.0 (rw c.in_ok-load.ensures.ok.1 at c.in_err-made.ensures)).1
+
+pub returns-in_err-save-clause-reply : goal.returns-in_err-save-clause-reply
+returns-in_err-save-clause-reply c = absurd (room_to_save _ c.in_err-save.field-0.0 c.in_ok-load.ensures.ok.0 c.in_err-save.ensures.refusal)
+
+pub returns-in_err-save-clause-bytes : goal.returns-in_err-save-clause-bytes
+returns-in_err-save-clause-bytes c = absurd (room_to_save _ c.in_err-save.field-0.0 c.in_ok-load.ensures.ok.0 c.in_err-save.ensures.refusal)
+
+pub returns-clause-reply : goal.returns-clause-reply
+returns-clause-reply c = (access_made_lem _ c.args.access c.in_ok-made.made c.in_ok-load.ensures.ok.0 (rw c.in_ok-load.ensures.ok.1 at c.in_ok-made.ensures)).0
+
+pub returns-clause-bytes : goal.returns-clause-bytes
+returns-clause-bytes c = rw c.save.ensures.bytes (access_made_lem _ c.args.access c.in_ok-made.made c.in_ok-load.ensures.ok.0 (rw c.in_ok-load.ensures.ok.1 at c.in_ok-made.ensures)).1

@@ -1,29 +1,32 @@
--- `call::event` replies `saved_event` and leaves `bytes_after_event` in the bytes. proofs/Calls.antt has its three cases.
-use mathlib.Core.Path.{sym, ◌∙◌}
-use borrow.Author.Tests.{not-false, not-true}
-use Rattle.state.proofs.Calls.{event_made_lem, event_refused_lem, event_unheld}
-use Rattle.state.proofs.Slices.{holds_length}
+-- `call::event` replies `saved_event` and leaves `bytes_after_event` in the bytes. proofs/Calls.antt has its cases.
+use Rattle.std.proofs.lemmas.Result.{err_from_is_err_and}
+use Rattle.state.proofs.Calls.{event_made_lem, event_refused_lem, event_unheld, room_to_save}
 use Rattle.state.proofs.call.event.Goals as goal
 
-pub returns-then-not-holds_device : goal.returns-then-not-holds_device
-returns-then-not-holds_device c = let h = sym c.holds_device.ensures ∙ not-true c.holds_device.result c.if-not-holds_device.true-raw in
-    let p = event_unheld c.args.bytes.now c.args.number h in
-    (c.refused.ensures ∙ p.0, p.1)
+pub returns-in_err-load-clause-reply : goal.returns-in_err-load-clause-reply
+returns-in_err-load-clause-reply c =
+    let p = err_from_is_err_and c.from_residual.result c.from_residual.ensures.1 in
+    rw (p.1, p.2) (event_unheld _ c.args.number c.in_err-load.field-0.0 c.in_err-load.ensures.value c.in_err-load.ensures.err).0
 
-pub read_from-device-requires : goal.read_from-device-requires
-read_from-device-requires c = holds_length _ (sym c.holds_device.ensures ∙ not-false c.holds_device.result c.if-not-holds_device.false-raw)
+pub returns-in_err-load-clause-bytes : goal.returns-in_err-load-clause-bytes
+returns-in_err-load-clause-bytes c = (event_unheld _ c.args.number c.in_err-load.field-0.0 c.in_err-load.ensures.value c.in_err-load.ensures.err).1
 
-pub returns-then-refusal-ne0 : goal.returns-then-refusal-ne0
-returns-then-refusal-ne0 c = let h = sym c.holds_device.ensures ∙ not-false c.holds_device.result c.if-not-holds_device.false-raw in
-    let e = sym (rw c.read_from-device.ensures at c.event_refusal-refusal.ensures) in
-    let p = event_refused_lem c.args.bytes.now c.args.number _ h e c.if-refusal-ne0.true in
-    (c.refused-then-refusal-ne0.ensures ∙ p.0, p.1)
+pub returns-in_err-made-clause-reply : goal.returns-in_err-made-clause-reply
+returns-in_err-made-clause-reply c =
+    let p = err_from_is_err_and c.from_residual-in_err-made.result c.from_residual-in_err-made.ensures.1 in
+    rw (p.1, p.2) (event_refused_lem _ c.args.number c.in_err-made.field-0.0 c.in_ok-load.ensures.ok.0 (rw c.in_ok-load.ensures.ok.1 at c.in_err-made.ensures)).0
 
-pub returns : goal.returns
-returns c = let h = sym c.holds_device.ensures ∙ not-false c.holds_device.result c.if-not-holds_device.false-raw in
-    let d = c.read_from-device.ensures in
-    let e = sym (rw d at c.event_refusal-refusal.ensures) ∙ c.if-refusal-ne0.false in
-    let p = event_made_lem c.args.bytes.now c.args.number h e in (
-      rw (c.done.ensures, c.outputs-outputs.ensures, c.apply_event-next.ensures, d) p.0,
-      rw (c.save.ensures.1, c.apply_event-next.ensures, d) p.1,
-    )
+pub returns-in_err-made-clause-bytes : goal.returns-in_err-made-clause-bytes
+returns-in_err-made-clause-bytes c = (event_refused_lem _ c.args.number c.in_err-made.field-0.0 c.in_ok-load.ensures.ok.0 (rw c.in_ok-load.ensures.ok.1 at c.in_err-made.ensures)).1
+
+pub returns-in_err-save-clause-reply : goal.returns-in_err-save-clause-reply
+returns-in_err-save-clause-reply c = absurd (room_to_save _ c.in_err-save.field-0.0 c.in_ok-load.ensures.ok.0 c.in_err-save.ensures.refusal)
+
+pub returns-in_err-save-clause-bytes : goal.returns-in_err-save-clause-bytes
+returns-in_err-save-clause-bytes c = absurd (room_to_save _ c.in_err-save.field-0.0 c.in_ok-load.ensures.ok.0 c.in_err-save.ensures.refusal)
+
+pub returns-clause-reply : goal.returns-clause-reply
+returns-clause-reply c = (event_made_lem _ c.args.number c.in_ok-made.made c.in_ok-load.ensures.ok.0 (rw c.in_ok-load.ensures.ok.1 at c.in_ok-made.ensures)).0
+
+pub returns-clause-bytes : goal.returns-clause-bytes
+returns-clause-bytes c = rw c.save.ensures.bytes (event_made_lem _ c.args.number c.in_ok-made.made c.in_ok-load.ensures.ok.0 (rw c.in_ok-load.ensures.ok.1 at c.in_ok-made.ensures)).1

@@ -1,20 +1,25 @@
--- `execute_control` does what an enter, a loop end or a jump does, by the contracts of `enter`, `loop_end` and `jump`.
+-- `execute_control` does what an enter, a loop end or a jump does (EachKind.antt).
+use mathlib.Core.Path.{sym, ap, ◌∙◌}
+use Rattle.record.specs.WordKinds.{word_kind_number}
+use Rattle.step.specs.Represents.{run_state}
+use Rattle.step.proofs.EachKind.{entered, jump_left, jumped, loop_ended}
 use Rattle.step.proofs.execute.Position.execute_control.Goals as goal
 
-pub enter-requires : goal.enter-requires
-enter-requires c = (c.requires.0, c.if-kind-eq-ENTER.true, c.requires.1.enters c.if-kind-eq-ENTER.true)
+pub returns-in-Enter : goal.returns-in-Enter
+returns-in-Enter c =
+    let r = c.requires in
+    rw (c.enter.ensures.0, c.enter.ensures.1)
+    (entered c.args.word c.args.self c.args.counters.now (sym r.kind_is ∙ ap word_kind_number c.in-Enter.is) (r.enters c.in-Enter.is))
 
-pub returns-then-kind-eq-ENTER : goal.returns-then-kind-eq-ENTER
-returns-then-kind-eq-ENTER c = c.enter.ensures
+pub returns-in-LoopEnd : goal.returns-in-LoopEnd
+returns-in-LoopEnd c =
+    let r = c.requires in
+    rw (c.loop_end.ensures.0, c.loop_end.ensures.1)
+    (loop_ended c.args.word c.args.self c.args.counters.now (sym r.kind_is ∙ ap word_kind_number c.in-LoopEnd.is) (r.loops c.in-LoopEnd.is))
 
-pub loop_end-requires : goal.loop_end-requires
-loop_end-requires c = (c.requires.0, c.if-kind-eq-LOOP_END.true, c.requires.1.loops c.if-kind-eq-LOOP_END.true, c.requires.1.few)
-
-pub returns-then-kind-eq-LOOP_END : goal.returns-then-kind-eq-LOOP_END
-returns-then-kind-eq-LOOP_END c = c.loop_end.ensures
-
-pub jump-requires : goal.jump-requires
-jump-requires c = c.requires.1.jumps c.if-kind-eq-ENTER.false c.if-kind-eq-LOOP_END.false
-
-pub returns : goal.returns
-returns c = c.jump.ensures c.args.counters.now
+pub returns-in_default : goal.returns-in_default
+returns-in_default c = λ d.
+    let r = c.requires in
+    let k = jump_left c.args.kind r.control c.in_default.not-Enter c.in_default.not-LoopEnd in
+    rw c.jump.ensures
+    (jumped c.args.word (run_state d c.args.self c.args.counters.now) (sym r.kind_is ∙ ap word_kind_number k))

@@ -1,0 +1,2 @@
+pub mod MapErr
+pub mod Numbers
