@@ -220,7 +220,7 @@ impl From<Result<SingleAccess, Refused>> for AccessAnswer {
             Ok(made) => AccessAnswer {
                 refusal: 0,
                 place: 0,
-                status: made.answer.status.number(),
+                status: made.answer.status,
                 value: made.answer.value,
                 owner: owner::number(made.owner),
                 outputs: OutputLevels::from(made.outputs),
