@@ -1,5 +1,6 @@
 // One access or one event on a saved device: the device is loaded, the call is made as on any device, and the device is saved again. A
-// refusal leaves the bytes unchanged. `runnelopal` calls these functions. See docs/CHIP.md, "Single calls".
+// refusal leaves the bytes unchanged. The device is read here and not by `load`, from whose result it would be copied: that takes a quarter more
+// time. `runnelopal` calls these functions. See docs/CHIP.md, "Single calls".
 ghost use Rattle.std.specs.Prelude.{◌≡◌};
 ghost use Rattle.state.specs.Call.{
   access_reply,
@@ -28,7 +29,10 @@ pub fn access(bytes: &mut [u8], access: Access) -> Result<AccessReply, Refused>
     ensures reply { access_reply result ≡ saved_access bytes.old access }
     ensures bytes { bytes.new ≡ bytes_after_access bytes.old access }
 {
-    let device = crate::load(bytes)?;
+    if !crate::holds_device(bytes) {
+        return Err(crate::NO_DEVICE);
+    }
+    let device = crate::read_from(bytes);
     device.access_refusal(access)?;
     let made = device.access(access);
     let outputs = made.device.outputs();
@@ -46,7 +50,10 @@ pub fn event(bytes: &mut [u8], number: u32) -> Result<Outputs, Refused>
     ensures reply { event_reply result ≡ saved_event bytes.old number }
     ensures bytes { bytes.new ≡ bytes_after_event bytes.old number }
 {
-    let device = crate::load(bytes)?;
+    if !crate::holds_device(bytes) {
+        return Err(crate::NO_DEVICE);
+    }
+    let device = crate::read_from(bytes);
     device.event_refusal(number)?;
     let next = device.apply_event(number);
     let outputs = next.outputs();
