@@ -21,8 +21,7 @@ ghost use Rattle.step.specs.Sequencer.{sequencer_in_range};
 ghost use Rattle.step.specs.Word.{image_words};
 
 use access::{Answer, Status};
-use device::owner;
-use device::{AccessResult, Device};
+use device::{AccessResult, Device, owner};
 use outcome::{Ending, RefusalKind, Refused};
 use record::Record;
 use record::word_kind::WordKind;
