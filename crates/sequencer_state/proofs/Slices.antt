@@ -1,12 +1,12 @@
 -- Slices of any length: `save` writes a slice of `sequencer_size` bytes as a whole and leaves any other slice unchanged.
-use Prim.Native.Nat.{ℕ, ◌+◌, ◌≤◌}
+use Prim.Native.Nat.{ℕ}
 use mathlib.Core.Path.{◌≡◌, refl, sym, ◌∙◌}
 use mathlib.Core.Bool.{Bool, true, false, cond}
-use mathlib.Core.List.{List, [], append-nil}
-use native.Mathlib.Omega.{arith}
-use lib.ListN.{drop, drop_of_length-le, length}
-use lib.Seq.{paste, take-length}
+use mathlib.Core.List.{List}
+use lib.ListN.{length}
+use lib.Seq.{paste}
 use borrow.Author.Tests.{eq-eqb, ne_eqb}
+use Rattle.lists.proofs.Paste.{paste_whole}
 use Rattle.outcome.specs.Number as number
 use Rattle.outcome.specs.Refusal.{refusal}
 use Rattle.step.specs.Sequencer.{fresh_sequencer}
@@ -21,13 +21,6 @@ use Rattle.sequencer_state.specs.State.{
   sequencer_or,
   sequencer_size,
 }
-
--- pasting a list of the same length at index 0 replaces the whole list
-paste_whole : (lent part : List ℕ) → length part ≡ length lent → paste lent 0 part (length part) ≡ part
-paste_whole lent part e =
-    let after : length lent ≤ 0 + length part = omega arith in
-    let gone : drop (0 + length part) lent ≡ [] = drop_of_length-le lent after in
-    rw (take-length part, gone, append-nil)
 
 pub saved_bytes : (s : Sequencer) (lent : List ℕ) → length lent ≡ sequencer_size → saved s lent ≡ sequencer_bytes s
 unfolding saved

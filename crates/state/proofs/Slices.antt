@@ -1,27 +1,20 @@
 -- Slices of any length: `save` writes a slice of `state_size` bytes as a whole and leaves any other slice unchanged. Only a slice of that
 -- length can hold a device.
-use Prim.Native.Nat.{ℕ, ◌+◌, ◌≤◌}
+use Prim.Native.Nat.{ℕ}
 use mathlib.Core.Path.{◌≡◌, refl, sym, ◌∙◌}
 use mathlib.Core.Bool.{Bool, true, false, cond, false≢true}
 use lib.Dec.{eqb}
-use mathlib.Core.List.{List, [], append-nil}
-use native.Mathlib.Omega.{arith}
-use lib.ListN.{drop, drop_of_length-le, length}
-use lib.Seq.{paste, take-length}
+use mathlib.Core.List.{List}
+use lib.ListN.{length}
+use lib.Seq.{paste}
 use borrow.Author.Tests.{eq-eqb, eqb-true, ne_eqb}
 use Rattle.device.specs.Device.{fresh_device}
 use Rattle.device.specs.declared.Device.{Device}
+use Rattle.lists.proofs.Paste.{paste_whole}
 use Rattle.outcome.specs.Number as number
 use Rattle.outcome.specs.Refusal.{refusal}
 use Rattle.state.proofs.RoundTrip.{state_length}
 use Rattle.state.specs.State.{device_from, device_or, holds_device, is_saved, loaded, saved, state_bytes, state_size}
-
--- pasting a list of the same length at index 0 replaces the whole list
-paste_whole : (lent part : List ℕ) → length part ≡ length lent → paste lent 0 part (length part) ≡ part
-paste_whole lent part e =
-    let after : length lent ≤ 0 + length part = omega arith in
-    let gone : drop (0 + length part) lent ≡ [] = drop_of_length-le lent after in
-    rw (take-length part, gone, append-nil)
 
 pub saved_bytes : (d : Device) (lent : List ℕ) → length lent ≡ state_size → saved d lent ≡ state_bytes d
 unfolding saved

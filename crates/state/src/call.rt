@@ -1,6 +1,6 @@
 // One access or one event on a saved device: the device is loaded, the call is made as on any device, and the device is saved again. A
-// refusal leaves the bytes unchanged. The device is read here and not by `load`, from whose result it would be copied: that takes a quarter more
-// time. `runnelopal` calls these functions. See docs/CHIP.md, "Single calls".
+// refusal leaves the bytes unchanged. The device is read here and not by `load`, from whose result it would be copied (docs/LOOK-BACK.md, d 2).
+// `runnelopal` calls these functions. See docs/CHIP.md, "Single calls".
 ghost use Rattle.std.specs.Prelude.{◌≡◌};
 ghost use Rattle.state.specs.Call.{
   access_reply,
