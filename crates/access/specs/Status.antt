@@ -28,7 +28,7 @@ status_only s = record { status = s; value = 0 }
 unfoldable pub read_value : ℕ → ℕ → ℕ → ℕ
 read_value status width value = cond (eqb status 0) value (cond (eqb status 1) (all_ones width) 0)
 
--- ---- the answers of the code, in the numbers of the table
+-- ---- the statuses and the answers of the code, in the numbers of the table
 abbrev pub status_number : Status → ℕ
 status_number Done = 0
 status_number Unclaimed = 1
@@ -37,4 +37,4 @@ status_number Absent = 4
 status_number Ignored = 5
 
 abbrev pub answer_of : code.Answer → Answer
-answer_of a = record { status = status_number a.status; value = a.value }
+answer_of a = record { status = a.status; value = a.value }

@@ -8,11 +8,6 @@ use native.Mathlib.Numerals.{add-one}
 use native.Mathlib.Omega.{arith}
 use lib.Dec.{eqb}
 use lib.ListN.{length, get_or, take, drop, length-append}
-use mathlib.Core.Logic.{inl, inr}
-use borrow.Author.Tests.{ne_eqb}
-use Rattle.std.specs.Prelude.{Option, None, Some, unwrap_or}
-use Rattle.std.proofs.lemmas.Bool.{cases_eq}
-use Rattle.std.proofs.Math.ListN.{get_or-map}
 use Rattle.record.specs.Record.{bytes_of, record_at, record_size}
 use Rattle.record.specs.declared.Record.{Record}
 use Rattle.script.specs.Kinds.{word_kind_for}
@@ -20,21 +15,20 @@ use Rattle.script.specs.Records.{record_count, records_from, records_of}
 use Rattle.script.specs.Refusals.{innermost, script_refusal}
 use Rattle.script.proofs.Flat.{accepts}
 use Rattle.script.proofs.Records.{Counted, after_last_lem, counts, from_here}
-use Rattle.compiler.specs.Emit.{HasWord, look_ahead, TargetsFrom, target_numbers, emit_flat, frames_after, emits_word, target_for, word_for}
+use Rattle.compiler.specs.Emit.{look_ahead, TargetsFrom, emit_flat, frames_after, emits_word, target_for, word_for}
 use Rattle.compiler.specs.Words.{halt, image_bytes, word, words_of}
 use Rattle.compiler.proofs.Ahead.{emit_script}
 use Rattle.compiler.proofs.Image.{one_more_word}
 use Rattle.compiler.proofs.Places.{count_words}
 
 -- ---- what holds before record k
-pub record Emitting (script lent : List ℕ) (targets : List (Option ℕ)) (image : List ℕ) (count place k : ℕ) : Type 0 where
+pub record Emitting (script lent targets image : List ℕ) (count place k : ℕ) : Type 0 where
   pub counted : Counted script count
   pub few_words_lem : length (words_of script) ≤ 1024
   pub fits : record_size * length (words_of script) ≤ length lent
   pub inside : k ≤ count
   pub frames : List ℕ
-  pub has_words : (j : ℕ) → j < count → HasWord (get_or targets j (Some 0)) (record_at script (record_size * j)).kind
-  pub aimed : TargetsFrom (target_numbers targets) k frames place (records_from (count - k) k script)
+  pub aimed : TargetsFrom targets k frames place (records_from (count - k) k script)
   pub words : List Record
   pub whole : words ++ emit_flat frames place (records_from (count - k) k script) ≡ words_of script
   pub many : length words ≡ place
@@ -42,13 +36,11 @@ pub record Emitting (script lent : List ℕ) (targets : List (Option ℕ)) (imag
   pub same : length image ≡ length lent
 
 -- it holds at the start: no word is written
-pub begins : (script lent : List ℕ) (targets : List (Option ℕ)) (count : ℕ) → count ≡ record_count script
+pub begins : (script lent targets : List ℕ) (count : ℕ) → count ≡ record_count script
     → (script_refusal script).number ≡ 0 → record_size * length (words_of script) ≤ length lent
-    → TargetsFrom (target_numbers targets) 0 [] 0 (records_of script)
-    → ((j : ℕ) → j < count → HasWord (get_or targets j (Some 0)) (record_at script (record_size * j)).kind)
-    → Emitting script lent targets lent count 0 0
+    → TargetsFrom targets 0 [] 0 (records_of script) → Emitting script lent targets lent count 0 0
 unfolding records_of
-begins script lent targets count e h l a w =
+begins script lent targets count e h l a =
     let c : count - 0 ≡ record_count script = omega arith in
     record {
       counted = counts script count e h;
@@ -56,7 +48,6 @@ begins script lent targets count e h l a w =
       fits = l;
       inside = omega arith;
       frames = [];
-      has_words = w;
       aimed = rw c a;
       words = [];
       whole = rw c (emit_script script h);
@@ -88,14 +79,7 @@ emits_by frame lead kind = pick (eqb kind 7) _
     pick true t = refl
     pick false t = refl
 
--- an entry shows whether its record becomes a word
-some_emits : (kind t : ℕ) → HasWord (Some t) kind → emits_word t kind ≡ true
-some_emits kind t h = elim (cases_eq kind 7) [
-  | inl e ↦ let above = h e in rw (e, ne_eqb t 0 (λ z. omega arith))
-  | inr n ↦ rw (ne_eqb kind 7 n)
-]
-
-module _ {script lent : List ℕ} {targets : List (Option ℕ)} {image : List ℕ} {count place k : ℕ} (g : Emitting script lent targets image count place k) where
+module _ {script lent targets image : List ℕ} {count place k : ℕ} (g : Emitting script lent targets image count place k) where
   pub has_room : (record_size * place + record_size ≤ length image) × (place ≤ 1024)
   has_room =
       let rest = emit_flat g.frames place (records_from (count - k) k script) in
@@ -120,57 +104,49 @@ module _ {script lent : List ℕ} {targets : List (Option ℕ)} {image : List �
     here : records_from (count - k) k script ≡ r ∷ rest
     here = rw (from_here script count k h, e)
 
-    aimed_on : TargetsFrom (target_numbers targets) k g.frames place (r ∷ rest)
+    aimed_on : TargetsFrom targets k g.frames place (r ∷ rest)
     aimed_on = rw here at g.aimed
 
-    -- the target in the table, and whether the record becomes a word
-    target_is : (t : Option ℕ) → get_or targets k (Some 0) ≡ t → unwrap_or t 0 ≡ target_for (innermost g.frames) lead r.kind
-    target_is t i = rw (← i) (sym (get_or-map (λ (t : Option ℕ). unwrap_or t 0) targets k (Some 0)) ∙ aimed_on.0)
+    target_is : get_or targets k 0 ≡ target_for (innermost g.frames) lead r.kind
+    target_is = aimed_on.0
 
-    has_word : (t : Option ℕ) → get_or targets k (Some 0) ≡ t → HasWord t r.kind
-    has_word t i = rw (e, ← i) (g.has_words k h)
-
-    emits_so : (t : ℕ) → t ≡ target_for (innermost g.frames) lead r.kind → emits_word t r.kind ≡ emits_word (innermost g.frames) r.kind
-    emits_so t i = rw i (emits_by (innermost g.frames) lead r.kind)
+    emits_so : {n : ℕ} → n ≡ r.kind → emits_word (get_or targets k 0) n ≡ emits_word (innermost g.frames) r.kind
+    emits_so q = rw (q, target_is) (emits_by (innermost g.frames) lead r.kind)
 
     unrolled : g.words ++ emit_flat g.frames place (r ∷ rest) ≡ words_of script
     unrolled =
         ap (λ (l : List Record). g.words ++ emit_flat g.frames place l) (sym here) ∙ g.whole
 
-    -- it becomes a word, which is written
-    pub goes_on : {t : ℕ} {w : Record} {now : List ℕ} → get_or targets k (Some 0) ≡ Some t
-        → w ≡ word (word_kind_for r.kind) r.width r.port t r.value
+    -- it becomes a word, which is written; n is the number of its kind
+    pub goes_on : {n : ℕ} {w : Record} {now : List ℕ} → n ≡ r.kind → emits_word (get_or targets k 0) n ≡ true
+        → w ≡ word (word_kind_for n) r.width r.port (get_or targets k 0) r.value
         → now ≡ take (record_size * place) image ++ (bytes_of w ++ drop record_size (drop (record_size * place) image)) → length now ≡ length image
         → Emitting script lent targets now count (place + 1) (k + 1)
-    goes_on {t = t} {w = w} b m i l =
-        let target = target_is (Some t) b in
-        let y : emits_word (innermost g.frames) r.kind ≡ true = sym (emits_so t target) ∙ some_emits r.kind t (has_word (Some t) b) in
+    goes_on {w = w} q b m i l =
+        let y : emits_word (innermost g.frames) r.kind ≡ true = sym (emits_so q) ∙ b in
         record {
           counted = g.counted;
           few_words_lem = g.few_words_lem;
           fits = g.fits;
           inside = omega arith;
-          has_words = g.has_words;
           frames = frames_after g.frames place r.kind;
           aimed = rw (add-one k, add-one place) (rw (y, add-one k) at aimed_on.1);
           words = g.words ++ (w ∷ []);
-          whole = rw (append_assoc, m, target, add-one place) (rw y at unrolled);
+          whole = rw (append_assoc, m, q, target_is, add-one place) (rw y at unrolled);
           many = length-append g.words (w ∷ []) ∙ (rw g.many);
           written = i ∙ one_more_word g.words w lent image place g.many g.written;
           same = l ∙ g.same;
         }
 
     -- it becomes no word
-    pub passes : get_or targets k (Some 0) ≡ None → Emitting script lent targets image count place (k + 1)
-    passes b =
-        let ends : r.kind ≡ 7 = has_word None b in
-        let n : emits_word (innermost g.frames) r.kind ≡ false = sym (emits_so 0 (target_is None b)) ∙ (rw ends) in
+    pub passes : {n : ℕ} → n ≡ r.kind → emits_word (get_or targets k 0) n ≡ false → Emitting script lent targets image count place (k + 1)
+    passes q b =
+        let n : emits_word (innermost g.frames) r.kind ≡ false = sym (emits_so q) ∙ b in
         record {
           counted = g.counted;
           few_words_lem = g.few_words_lem;
           fits = g.fits;
           inside = omega arith;
-          has_words = g.has_words;
           frames = frames_after g.frames place r.kind;
           aimed = rw (add-one k) (rw (n, add-one k) at aimed_on.1);
           words = g.words;

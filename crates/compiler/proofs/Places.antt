@@ -60,12 +60,17 @@ emit_length (if_else p w m b c rest) at ws =
     let k = emit_length rest (place_after middle c) ws in
     omega arith
 
+-- the scan counts one word for each place of a body
+pub count_flat : (b : Body) (blocks : List ℕ) (at : ℕ) (tl : List Record)
+    → word_count blocks (flat b tl) + at ≡ place_after at b + word_count blocks tl
+count_flat b blocks at tl = omega (arith, words_flat b blocks tl, after_words b at)
+
 -- for an accepted list of records, the scan counts the words of the body and the halt
 pub count_records : (rs : List Record) → (first_fault [] 0 rs).number ≡ 0
     → word_count [] rs ≡ suc (place_after 0 (body_in (reading_of rs)))
 count_records rs h =
     let b = body_in (reading_of rs) in
-    let i : word_count [] (flat b []) ≡ suc (place_after 0 b) = omega (arith, words_flat b [] [], after_words b 0) in
+    let i : word_count [] (flat b []) ≡ suc (place_after 0 b) = let c = count_flat b [] 0 [] in omega arith in
     ap (λ (l : List Record). word_count [] l) (reading_flat rs h) ∙ i
 
 -- the scan counts exactly the words of an accepted script

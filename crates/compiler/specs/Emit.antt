@@ -1,7 +1,7 @@
 -- A second definition of a script's words: one pass over the flat list of records, which looks ahead for the target of each block.
 -- It gives the words of Words.antt (proofs/Ahead.antt). The code does not look ahead; it fills a table with the same targets
 -- (proofs/Targets.antt). Only contracts and proofs inside this crate use this file.
-use Rattle.std.specs.Prelude.{ℕ, suc, ◌≡◌, ◌<◌, Bool, cond, not, ◌&&◌, ◌||◌, List, [], ◌∷◌, eqb, get_or, map, Option, None, Some, unwrap_or}
+use Rattle.std.specs.Prelude.{ℕ, suc, ◌≡◌, Bool, cond, not, ◌&&◌, ◌||◌, List, [], ◌∷◌, eqb, get_or}
 use Rattle.record.specs.declared.Record.{Record}
 use Rattle.script.specs.Kind as kind
 use Rattle.script.specs.Kinds.{word_kind_for}
@@ -58,11 +58,3 @@ TargetsFrom targets k frames place [] = Unit {0}
 TargetsFrom targets k frames place (r ∷ rs) =
     (get_or targets k 0 ≡ target_for (innermost frames) (look_ahead [] (suc place) rs) r.kind)
     × TargetsFrom targets (suc k) (frames_after frames place r.kind) (place_after_record (innermost frames) place r.kind) rs
-
--- ---- the table has an entry for every record that becomes a word: all but the end of an if
-abbrev pub target_numbers : List (Option ℕ) → List ℕ
-target_numbers targets = map (λ t. unwrap_or t 0) targets
-
-abbrev pub HasWord : Option ℕ → ℕ → Type 0
-HasWord None k = k ≡ kind.end
-HasWord (Some target) k = k ≡ kind.end → 0 < target

@@ -3,14 +3,14 @@
 // to 8. See docs/CHIP.md, "Words" and "Refusals".
 #![tactic(auto)]
 
-ghost use Rattle.std.specs.Prelude.{◌≡◌, [], ℕ, ◌++◌, ◌+◌, ◌*◌, ◌<◌, ◌≤◌, get_or, ltb, length, take, drop, replicate};
-ghost use Rattle.record.specs.Record.{bytes_of, most_records, record_at, record_size};
+ghost use Rattle.std.specs.Prelude.{◌≡◌, [], ◌++◌, ◌+◌, ◌*◌, ◌≤◌, ltb, length, take, drop, replicate};
+ghost use Rattle.record.specs.Record.{bytes_of, most_records, record_size};
 ghost use Rattle.record.specs.WordKinds.{word_kind_number};
 ghost use Rattle.script.specs.Kinds.{kind_number};
-ghost use Rattle.script.specs.Records.{record_count, records_of};
+ghost use Rattle.script.specs.Records.{records_of};
 ghost use Rattle.script.specs.Refusals.{script_refusal};
 ghost use Rattle.compiler.specs.Compile.{compile_result, compiled, image_after};
-ghost use Rattle.compiler.specs.Emit.{HasWord, TargetsFrom, target_numbers};
+ghost use Rattle.compiler.specs.Emit.{TargetsFrom, emits_word};
 ghost use Rattle.compiler.specs.Words.{word, image_bytes, words_of};
 
 use lists::array_stack::ArrayStack;
@@ -30,12 +30,12 @@ struct OpenBlock {
 
 // Fills in the target of each record's word, in one pass. A loop end jumps back to its body. An enter, a test and the jump of an
 // else jump forward, so their targets are filled in later: at the end of the block or, for a test, at its else.
-// The end of an if becomes no word, and has none. The targets are a table beside the script, because the records are bytes of the caller.
-fn fill_targets(script: &[u8], targets: &mut [Option<u32>; Record::MOST])
+// The end of an if becomes no word, and has 0, like a word that uses no target. The targets are a table beside the script, because
+// the records are bytes of the caller.
+fn fill_targets(script: &[u8], targets: &mut [u32; Record::MOST])
     requires accepted { (script_refusal script.now).number ≡ 0 }
-    requires empty { targets.old ≡ replicate most_records (Some 0) }
-    ensures targets { TargetsFrom (target_numbers targets.new) 0 [] 0 (records_of script.now) }
-    ensures words { (k : ℕ) → k < record_count script.now → HasWord (get_or targets.new k (Some 0)) (record_at script.now (record_size * k)).kind }
+    requires empty { targets.old ≡ replicate most_records 0 }
+    ensures { TargetsFrom targets.new 0 [] 0 (records_of script.now) }
 {
     let mut open: ArrayStack<OpenBlock, { script::MOST_BLOCKS }> = ArrayStack::new(OpenBlock {
         waiting: 0,
@@ -65,7 +65,7 @@ fn fill_targets(script: &[u8], targets: &mut [Option<u32>; Record::MOST])
                 // The target of the test is known. Now the target of the jump is missing.
                 place += 1;
                 let test = open.pop().unwrap();
-                targets[test.waiting] = Some(place);
+                targets[test.waiting] = place;
                 open.push(OpenBlock {
                     waiting: k,
                     body: None,
@@ -73,11 +73,11 @@ fn fill_targets(script: &[u8], targets: &mut [Option<u32>; Record::MOST])
             }
             RecordKind::End => {
                 let opened = open.pop().unwrap();
-                targets[k] = opened.body;
+                targets[k] = opened.body.unwrap_or(0);
                 if opened.body.is_some() {
                     place += 1;
                 }
-                targets[opened.waiting] = Some(place);
+                targets[opened.waiting] = place;
             }
         }
     }
@@ -96,6 +96,13 @@ fn word(kind: WordKind, width: u32, port: u32, target: u32, value: u32) -> Recor
         target,
         value,
     }
+}
+
+// Every record becomes a word, except the end of an if. The target of a loop end is never 0, so 0 marks the end of an if.
+fn emits_word(target: u32, kind: RecordKind) -> bool
+    ensures { result ≡ emits_word target (kind_number kind) }
+{
+    kind != RecordKind::End || target != 0
 }
 
 // ---- image
@@ -122,17 +129,23 @@ fn emit(script: &[u8], image: &mut [u8])
     requires room { record_size * length (words_of script.now) ≤ length image.old }
     ensures { image.new ≡ image_bytes (words_of script.now) ++ drop (record_size * length (words_of script.now)) image.old }
 {
-    // A word that uses no target has 0 there, so 0 is a target here. Only a record without a word has none.
-    let mut targets = [Some(0); Record::MOST];
+    // The targets are numbers, with 0 for none, because each call clears the table: with options, a compile of one record took
+    // 2.1 times the instructions (counted with callgrind).
+    let mut targets = [0; Record::MOST];
     fill_targets(script, &mut targets);
     let mut place: u32 = 0;
     // By place, as `records_from` reads the records.
     for k in 0..script.len() / Record::SIZE {
         let r = record::read(script, Record::SIZE * k);
-        if let Some(target) = targets[k] {
+        let target = targets[k];
+        let kind = kind_of(r.kind);
+        if emits_word(target, kind) {
             // Fields that the record does not use are 0, so the word can copy them.
-            let kind = kind_of(r.kind).word_kind();
-            put(image, place, word(kind, r.width, r.port, target, r.value));
+            put(
+                image,
+                place,
+                word(kind.word_kind(), r.width, r.port, target, r.value),
+            );
             place += 1;
         }
     }

@@ -1,3 +1,4 @@
 pub mod Orderly
 pub mod Range
 pub mod Saved
+pub mod Std

@@ -43,7 +43,7 @@ impl Config {
     {
         let locked = !self.unlocked;
         if locked {
-            return Answer::status_only(Status::Unclaimed);
+            return Answer::status_only(Status::Unclaimed.number());
         }
         Answer::done(u32::from(self.index))
     }
@@ -76,9 +76,9 @@ impl Config {
             if self.number == Config::RUNTIME_DEVICE {
                 return self.register_read();
             }
-            return Answer::status_only(Status::Absent);
+            return Answer::status_only(Status::Absent.number());
         }
-        Answer::status_only(Status::Unclaimed)
+        Answer::status_only(Status::Unclaimed.number())
     }
 
     // Writes to the registers of device 0Ah.
@@ -124,7 +124,7 @@ impl Config {
             Config::KEY_BASE_HIGH => self.key_base.to_be_bytes()[0],
             Config::KEY_BASE_LOW => self.key_base.to_be_bytes()[1],
             Config::KEY_CONTROL => self.control,
-            _ => return Answer::status_only(Status::Absent),
+            _ => return Answer::status_only(Status::Absent.number()),
         };
         Answer::done(u32::from(value))
     }

@@ -43,7 +43,7 @@ impl Device {
             return AccessResult {
                 device: self,
                 owner: None,
-                answer: Answer::status_only(Status::Unclaimed),
+                answer: Answer::status_only(Status::Unclaimed.number()),
             };
         };
         match owner {

@@ -128,6 +128,14 @@ impl<'a> Writer<'a> {
         Writer { line, at: 0 }
     }
 
+    // Goes on at an index of the line: after text that is there already, or past its end, where nothing more is written.
+    pub fn starting_at(line: &'a mut [u8], at: usize) -> Writer<'a>
+        ensures same_line { result.line.ghost_name ≡ line.entry.ghost_name }
+        ensures placed { written result ≡ line_at line.old at }
+    {
+        Writer { line, at }
+    }
+
     // The number of bytes written so far.
     pub fn len(&self) -> usize
         ensures { result ≡ self.now.at }

@@ -14,7 +14,7 @@ use Rattle.device.specs.Device.{device_in_range}
 use Rattle.device.specs.declared.Device.{Device}
 use Rattle.outcome.proofs.Numbers.{refusal_number_above}
 use Rattle.outcome.specs.Refusal.{Refusal, refusal}
-use Rattle.outcome.specs.Refused.{refusal_number, refusal_of}
+use Rattle.outcome.specs.Refused.{refusal_of}
 use Rattle.outcome.specs.declared.Refused.{Refused}
 use Rattle.script.specs.Refusals.{script_refusal}
 use Rattle.script.specs.Scan.{ScanResult, script_scan}
@@ -49,15 +49,20 @@ module _ (script : List ℕ) (d : Device) (events : List ℕ) (s : ScanResult) (
   by_events z r = let n = sym number_is ∙ z in rw (n, r)
 
 -- ---- the answer of the call
-pub refused :
+module _ (script : List ℕ) (d : Device) (events : List ℕ) (f : Refusal) (e : f ≡ interpret_refusal script d events) where
+  pub refused : (budget : ℕ) (log : List ℕ) → (f.number ≡ 0 → ⊥)
+      → (refused_interpret f d ≡ interpret_result script d events budget log) × (log ≡ interpret_log script d events budget log)
+  unfolding interpret_result interpret_log
+  refused budget log z =
+      let n : eqb (interpret_refusal script d events).number 0 ≡ false = rw e at (ne_eqb f.number 0 z) in
+      (rw (n, e), rw n)
+
+-- the same for a refusal of the code, whose number is never 0
+pub refused_by_code :
     (script : List ℕ) (d : Device) (events : List ℕ) (budget : ℕ) (log : List ℕ) (f : Refused)
     → refusal_of f ≡ interpret_refusal script d events
     → (refused_interpret (refusal_of f) d ≡ interpret_result script d events budget log) × (log ≡ interpret_log script d events budget log)
-unfolding interpret_result interpret_log
-refused script d events budget log f e =
-    let n : refusal_number f.kind ≡ (interpret_refusal script d events).number = ap (λ (x : Refusal). x.number) e in
-    let k = ne_eqb (interpret_refusal script d events).number 0 (λ z. refusal_number_above f.kind (n ∙ z)) in
-    (rw k (ap (λ (x : Refusal). refused_interpret x d) e), rw k)
+refused_by_code script d events budget log f e = refused script d events (refusal_of f) e budget log (refusal_number_above f.kind)
 
 pub not_refused :
     (script : List ℕ) (d : Device) (events : List ℕ) → refusal 0 0 ≡ interpret_refusal script d events

@@ -10,7 +10,7 @@ ghost use Rattle.interpreter.specs.State.{EndsAs, log_full, walk_answer};
 use crate::InterpretResult;
 use crate::partners::TABLE_SIZE;
 use access::{Answer, Status};
-use device::{AccessResult, Device};
+use device::{AccessResult, Device, owner};
 use outcome::Ending;
 use record::Record;
 use script::kind::{RecordKind, kind_of};
@@ -52,7 +52,7 @@ pub fn walk_script(
     let mut last = AccessResult {
         device,
         owner: None,
-        answer: Answer::status_only(Status::Done),
+        answer: Answer::status_only(Status::Done.number()),
     };
     let mut position = Position {
         used: 0,
@@ -86,7 +86,7 @@ pub fn walk_script(
                     kind.word_kind(),
                     r.value,
                     partner,
-                    last.owner,
+                    owner::number(last.owner),
                     last.answer.value,
                     events,
                     log,

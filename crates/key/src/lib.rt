@@ -69,7 +69,7 @@ impl Key {
         ensures { answer_of result ≡ key_read self control at }
     {
         if control & Key::READ_LOCK != 0 {
-            return Answer::status_only(Status::Blocked);
+            return Answer::status_only(Status::Blocked.number());
         }
         Answer::done(u32::from(self.bytes[at]))
     }

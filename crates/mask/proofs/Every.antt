@@ -35,6 +35,9 @@ all_true zero p h = refl
 all_true (suc n) p h = and_both (all_below n p) (p n) (all_true n p (λ k l. h k (omega arith))) (h n (omega arith))
 
 -- one more number
+pub all_next : (n : ℕ) (p : ℕ → Bool) → (all_below n p && p n) ≡ all_below (n + 1) p
+all_next n p = rw add-one
+
 pub all_more : (n : ℕ) (p : ℕ → Bool) → all_below n p ≡ true → p n ≡ true → all_below (n + 1) p ≡ true
 all_more n p h k = rw add-one (and_both (all_below n p) (p n) h k)
 

@@ -32,7 +32,7 @@ pub fn put_outputs(answer: &mut Writer, outputs: Outputs) {
 // An access that is made: the status, the value, the outputs and the owner.
 pub fn put_access(answer: &mut Writer, made: SingleAccess) {
     answer.put_text(b"DONE ");
-    answer.put_decimal(made.answer.status.number());
+    answer.put_decimal(made.answer.status);
     answer.put(b' ');
     answer.put_hex(made.answer.value);
     answer.put(b' ');

@@ -27,10 +27,14 @@ fn perform(session: &mut Session, line: &Line, answer: &mut Writer) -> Option<()
     session.perform(Command::read(line.text()?)?, answer)
 }
 
-// The answer is written at once.
-fn reply(rt: &impl Print, session: &mut Session, line: &Line) -> io::Result<()> {
-    let mut buffer = [0; ANSWER_SIZE];
-    let mut answer = Writer::new(&mut buffer);
+// The answer is written at once. The caller has the buffer, so that it is cleared once and not for each line.
+fn reply(
+    rt: &impl Print,
+    session: &mut Session,
+    line: &Line,
+    buffer: &mut [u8; ANSWER_SIZE],
+) -> io::Result<()> {
+    let mut answer = Writer::new(buffer);
     if perform(session, line, &mut answer).is_none() {
         answer.put_text(b"UNREAD");
     }
@@ -44,6 +48,7 @@ fn main(rt: HostRuntime) -> io::Result<()> {
     let mut chunk = [0; Line::MOST];
     let mut line = Line::new();
     let mut session = Session::fresh();
+    let mut buffer = [0; ANSWER_SIZE];
     for _ in 0..u64::MAX {
         let count = input::read_full(&mut stdin, &mut chunk)?;
         if count == 0 {
@@ -51,7 +56,7 @@ fn main(rt: HostRuntime) -> io::Result<()> {
         }
         for b in &chunk[..count] {
             if *b == b'\n' {
-                reply(&rt, &mut session, &line)?;
+                reply(&rt, &mut session, &line, &mut buffer)?;
                 line.clear();
             } else {
                 line.push(*b);
@@ -61,5 +66,5 @@ fn main(rt: HostRuntime) -> io::Result<()> {
     if line.is_empty() {
         return Ok(());
     }
-    reply(&rt, &mut session, &line)
+    reply(&rt, &mut session, &line, &mut buffer)
 }

@@ -104,22 +104,20 @@ impl Session {
 
     // After a refusal the device stays as it was.
     fn load(&mut self, bytes: [u8; state::SIZE], answer: &mut Writer) {
-        match state::load(&bytes) {
-            Ok(device) => {
-                self.device = device;
-                answer.put_text(b"LOADED");
-            }
+        let loaded = state::load(&bytes);
+        self.device = state::device_or(loaded, self.device);
+        match loaded {
+            Ok(_) => answer.put_text(b"LOADED"),
             Err(refused) => answer::put_refused(answer, refused),
         }
     }
 
     // After a refusal the sequencer stays as it was. `load` is the same for the device: one function would need both the loader and the field.
     fn load_sequencer(&mut self, bytes: [u8; sequencer_state::SIZE], answer: &mut Writer) {
-        match sequencer_state::load(&bytes) {
-            Ok(sequencer) => {
-                self.sequencer = sequencer;
-                answer.put_text(b"LOADED");
-            }
+        let loaded = sequencer_state::load(&bytes);
+        self.sequencer = sequencer_state::sequencer_or(loaded, self.sequencer);
+        match loaded {
+            Ok(_) => answer.put_text(b"LOADED"),
             Err(refused) => answer::put_refused(answer, refused),
         }
     }

@@ -4,44 +4,45 @@ use crate::string::ByteString;
 use access::Access;
 use step::{COUNTERS, Sequencer};
 
-// The words of a line that are left. They are separated by exactly one space. With `split` of a slice, all commands would be read in one function, as
+// What is left of a line: words, each with exactly one space before it. With `split` of a slice, all commands would be read in one function, as
 // its closure has no name, and that proof is too large.
 #[derive(Clone, Copy)]
 pub struct Words<'a> {
-    rest: Option<&'a [u8]>,
+    rest: &'a [u8],
 }
 
 impl<'a> Words<'a> {
+    // The first word has no space before it: it is the letter.
     pub fn of(line: &'a [u8]) -> Self {
-        Words { rest: Some(line) }
+        Words { rest: line }
     }
 
     pub fn is_empty(self) -> bool {
-        self.rest.is_none()
+        self.rest.is_empty()
     }
 
     pub fn word(&mut self) -> Option<&'a [u8]> {
-        let rest = self.rest?;
-        let Some(end) = rest.iter().position(|b| *b == b' ') else {
-            self.rest = None;
-            return Some(rest);
-        };
-        self.rest = Some(&rest[end + 1..]);
-        Some(&rest[..end])
-    }
-
-    // The letter of the command.
-    pub fn letter(&mut self) -> Option<u8> {
-        match self.word()? {
-            [letter] => Some(*letter),
-            _ => None,
+        if !digits::is_space(self.rest, 0) {
+            return None;
         }
+        let words = &self.rest[1..];
+        let end = words.iter().position(|b| *b == b' ').unwrap_or(words.len());
+        self.rest = &words[end..];
+        Some(&words[..end])
     }
 
+    // The letter of the command. What follows it is read as words, so it has a space before it.
+    pub fn letter(&mut self) -> Option<u8> {
+        let letter = *self.rest.first()?;
+        self.rest = &self.rest[1..];
+        Some(letter)
+    }
+
+    // The space and the number. What follows is another word, or the end.
     pub fn number(&mut self) -> Option<u32> {
-        let word = self.word()?;
-        let number = digits::number(word, 0)?;
-        (number.next == word.len()).then_some(number.value)
+        let number = digits::next_number(self.rest, 0)?;
+        self.rest = self.rest.get(number.next..)?;
+        Some(number.value)
     }
 
     pub fn size(&mut self) -> Option<usize> {

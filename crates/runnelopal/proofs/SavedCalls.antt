@@ -7,10 +7,12 @@ use mathlib.Core.List.{List}
 use lib.Dec.{eqb}
 use borrow.Author.Tests.{ne_eqb}
 use Rattle.std.specs.Prelude.{Ok, Err}
+use Rattle.device.specs.Device.{device_in_range}
 use Rattle.device.specs.declared.Device.{Device}
 use Rattle.interpreter.specs.Interpret.{interpret_log, interpret_refusal, interpret_result}
 use Rattle.interpreter.specs.Interpreted.{interpreted}
 use Rattle.interpreter.specs.declared.InterpretResult as walk
+use Rattle.mask.proofs.Every.{and_left}
 use Rattle.outcome.specs.Number as number
 use Rattle.outcome.specs.Refusal.{refusal}
 use Rattle.outcome.proofs.Numbers.{refusal_number_above}
@@ -25,10 +27,22 @@ use Rattle.sequencer.specs.Run.{is_refusal, log_after, run_answer, run_refusal}
 use Rattle.sequencer.specs.declared.RunResult as run
 use Rattle.sequencer_state.specs.State.{holds_sequencer, saved as sequencer_saved, sequencer_from}
 use Rattle.state.specs.State.{device_from, holds_device, saved as device_saved}
+use Rattle.step.specs.Sequencer.{sequencer_in_range}
 use Rattle.step.specs.declared.Sequencer.{Sequencer}
 use Rattle.runnelopal.proofs.Refusals.{RefusedWith, interpret_refuses, run_refuses}
 use Rattle.runnelopal.specs.Answers.{ended, refused_answer}
-use Rattle.runnelopal.specs.Calls.{after_interpret, after_run, held_interpret, held_run, saved_interpret, saved_run, unheld_refusal, unheld_script_refusal}
+use Rattle.runnelopal.specs.Calls.{
+  after_interpret,
+  after_run,
+  held_interpret,
+  held_run,
+  unheld_refusal,
+  unheld_script_refusal,
+  saved_interpret,
+  saved_run,
+  valid_device,
+  valid_sequencer,
+}
 
 ending_ends : (e : Ending) → is_refusal (ending_number e) ≡ false
 ending_ends Halted = refl
@@ -115,3 +129,10 @@ module _ (script : List ℕ) where
       let r : refusal_of f ≡ script_refusal script = ap {A = ScanResult} (λ s. refusal s.number s.place) e in
       let k : eqb (script_refusal script).number 0 ≡ false = rw n at (ne_eqb (refusal_number f.kind) 0 (refusal_number_above f.kind)) in
       rw k r
+
+-- ---- valid bytes
+pub valid_holds : (bytes : List ℕ) → valid_device bytes ≡ true → holds_device bytes ≡ true
+valid_holds bytes h = and_left (holds_device bytes) (device_in_range (device_from bytes)) h
+
+pub valid_holds_sequencer : (bytes : List ℕ) → valid_sequencer bytes ≡ true → holds_sequencer bytes ≡ true
+valid_holds_sequencer bytes h = and_left (holds_sequencer bytes) (sequencer_in_range (sequencer_from bytes)) h

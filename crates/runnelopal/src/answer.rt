@@ -3,7 +3,6 @@
 ghost use Rattle.std.specs.Prelude.{◌≡◌};
 ghost use Rattle.assembler.specs.Assembled.{assembled};
 ghost use Rattle.compiler.specs.Compile.{compiled};
-ghost use Rattle.device.specs.Single.{access_reply, event_reply};
 ghost use Rattle.lister.specs.Listing.{listed};
 ghost use Rattle.outcome.specs.Refused.{refusal_of};
 ghost use Rattle.runnelopal.specs.Answers.{
@@ -20,11 +19,12 @@ ghost use Rattle.runnelopal.specs.Answers.{
   refused_answer,
   sequencer_refused,
 };
+ghost use Rattle.state.specs.Call.{access_reply, event_reply};
 
 use assembler::LineRefused;
-use device::single::{SingleAccess, SingleEvent};
 use device::{Device, Outputs, owner};
 use outcome::{Ending, Refused};
+use state::call::AccessReply;
 use step::{COUNTERS, Sequencer};
 
 // The outputs of the chip: SCI, SMI and the monitor interrupt.
@@ -212,15 +212,15 @@ pub fn ended(ending: Ending, steps: u32, taken: usize, logged: usize, device: De
     }
 }
 
-impl From<Result<SingleAccess, Refused>> for AccessAnswer {
+impl From<Result<AccessReply, Refused>> for AccessAnswer {
     ghost from_gives = { λ s r. r ≡ exported_access (access_reply s) };
 
-    fn from(single: Result<SingleAccess, Refused>) -> Self {
+    fn from(single: Result<AccessReply, Refused>) -> Self {
         match single {
             Ok(made) => AccessAnswer {
                 refusal: 0,
                 place: 0,
-                status: made.answer.status.number(),
+                status: made.answer.status,
                 value: made.answer.value,
                 owner: owner::number(made.owner),
                 outputs: OutputLevels::from(made.outputs),
@@ -237,15 +237,15 @@ impl From<Result<SingleAccess, Refused>> for AccessAnswer {
     }
 }
 
-impl From<Result<SingleEvent, Refused>> for OutputsAnswer {
+impl From<Result<Outputs, Refused>> for OutputsAnswer {
     ghost from_gives = { λ s r. r ≡ exported_event (event_reply s) };
 
-    fn from(single: Result<SingleEvent, Refused>) -> Self {
+    fn from(single: Result<Outputs, Refused>) -> Self {
         match single {
-            Ok(made) => OutputsAnswer {
+            Ok(outputs) => OutputsAnswer {
                 refusal: 0,
                 place: 0,
-                outputs: OutputLevels::from(made.outputs),
+                outputs: OutputLevels::from(outputs),
             },
             Err(refused) => OutputsAnswer {
                 refusal: refused.kind.number(),

@@ -12,7 +12,7 @@ use Rattle.device.specs.declared.Device.{Device}
 use Rattle.mask.proofs.Every.{and_left, and_right}
 use Rattle.outcome.proofs.Numbers.{refusal_number_above}
 use Rattle.outcome.specs.Refusal.{Refusal, refusal}
-use Rattle.outcome.specs.Refused.{refusal_number, refusal_of}
+use Rattle.outcome.specs.Refused.{refusal_of}
 use Rattle.outcome.specs.declared.Refused.{Refused}
 use Rattle.sequencer.specs.Ends.{EndsAs}
 use Rattle.sequencer.specs.Ran.{run_of}
@@ -34,14 +34,21 @@ use Rattle.step.proofs.Faults.{or_right}
 
 -- a refusal is the answer, and the log is unchanged
 pub refused :
+    (image : List ℕ) (d : Device) (s : Sequencer) (events : List ℕ) (budget : ℕ) (log : List ℕ) (f : Refusal)
+    → f ≡ run_refusal image d s events → (f.number ≡ 0 → ⊥)
+    → (refused_run (refusal f.number f.place) d s ≡ run_answer image d s events budget log)
+    × (log ≡ log_after image d s events budget log)
+unfolding run_answer log_after
+refused image d s events budget log f e n =
+    let k = ne_eqb (run_refusal image d s events).number 0 (λ z. n (ap (λ (x : Refusal). x.number) e ∙ z)) in
+    (rw (e, k), rw k)
+
+-- the same for a refusal of the code, whose number is never 0
+pub refused_by_code :
     (image : List ℕ) (d : Device) (s : Sequencer) (events : List ℕ) (budget : ℕ) (log : List ℕ) (f : Refused)
     → refusal_of f ≡ run_refusal image d s events
     → (refused_run (refusal_of f) d s ≡ run_answer image d s events budget log) × (log ≡ log_after image d s events budget log)
-unfolding run_answer log_after
-refused image d s events budget log f e =
-    let n : refusal_number f.kind ≡ (run_refusal image d s events).number = ap (λ (x : Refusal). x.number) e in
-    let k = ne_eqb (run_refusal image d s events).number 0 (λ z. refusal_number_above f.kind (n ∙ z)) in
-    (rw k (ap (λ (x : Refusal). refused_run x d s) e), rw k)
+refused_by_code image d s events budget log f e = refused image d s events budget log (refusal_of f) e (refusal_number_above f.kind)
 
 -- without a refusal, the end of `run_words` is the answer
 pub done :

@@ -21,7 +21,7 @@ ghost use Rattle.step.specs.Sequencer.{sequencer_in_range};
 ghost use Rattle.step.specs.Word.{image_words};
 
 use access::{Answer, Status};
-use device::{AccessResult, Device};
+use device::{AccessResult, Device, owner};
 use outcome::{Ending, RefusalKind, Refused};
 use record::Record;
 use record::word_kind::WordKind;
@@ -164,7 +164,7 @@ fn run_words(
     let mut last = AccessResult {
         device,
         owner: None,
-        answer: Answer::status_only(Status::Done),
+        answer: Answer::status_only(Status::Done.number()),
     };
     let mut position = start(sequencer);
     let mut counters = sequencer.counters;
@@ -209,7 +209,7 @@ fn run_words(
                     kind,
                     word.value,
                     word.target,
-                    last.owner,
+                    owner::number(last.owner),
                     last.answer.value,
                     events,
                     log,

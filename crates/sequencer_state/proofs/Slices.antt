@@ -1,14 +1,17 @@
 -- Slices of any length: `save` writes a slice of `sequencer_size` bytes as a whole and leaves any other slice unchanged.
 use Prim.Native.Nat.{ℕ}
-use mathlib.Core.Path.{◌≡◌, refl}
+use mathlib.Core.Path.{◌≡◌, refl, sym, ◌∙◌}
 use mathlib.Core.Bool.{Bool, true, false, cond}
 use mathlib.Core.List.{List}
 use lib.ListN.{length}
+use lib.Seq.{paste}
 use borrow.Author.Tests.{eq-eqb, ne_eqb}
+use Rattle.lists.proofs.Paste.{paste_whole}
 use Rattle.outcome.specs.Number as number
 use Rattle.outcome.specs.Refusal.{refusal}
 use Rattle.step.specs.Sequencer.{fresh_sequencer}
 use Rattle.step.specs.declared.Sequencer.{Sequencer}
+use Rattle.sequencer_state.proofs.RoundTrip.{bytes_length_lem}
 use Rattle.sequencer_state.specs.State.{
   holds_sequencer,
   loaded,
@@ -19,9 +22,14 @@ use Rattle.sequencer_state.specs.State.{
   sequencer_size,
 }
 
-pub saved_whole : (s : Sequencer) (lent : List ℕ) → length lent ≡ sequencer_size → saved s lent ≡ sequencer_bytes s
+pub saved_bytes : (s : Sequencer) (lent : List ℕ) → length lent ≡ sequencer_size → saved s lent ≡ sequencer_bytes s
 unfolding saved
-saved_whole s lent n = rw (eq-eqb (length lent) sequencer_size n)
+saved_bytes s lent n = rw (eq-eqb (length lent) sequencer_size n)
+
+pub saved_whole :
+    (s : Sequencer) (lent bytes : List ℕ) → length lent ≡ sequencer_size
+    → bytes ≡ paste lent 0 (sequencer_bytes s) (length (sequencer_bytes s)) → bytes ≡ saved s lent
+saved_whole s lent bytes n e = e ∙ paste_whole lent (sequencer_bytes s) (bytes_length_lem s ∙ sym n) ∙ sym (saved_bytes s lent n)
 
 pub saved_not : (s : Sequencer) (lent : List ℕ) → (length lent ≡ sequencer_size → ⊥) → lent ≡ saved s lent
 unfolding saved

@@ -14,6 +14,7 @@ ghost use Rattle.sequencer_state.specs.State.{
   saved,
   loaded,
   load_of,
+  sequencer_or,
 };
 ghost use Rattle.outcome.specs.Refused.{refusal_in};
 
@@ -106,4 +107,15 @@ pub fn load(bytes: &[u8]) -> Result<Sequencer, Refused>
         return Err(NO_SEQUENCER);
     }
     Ok(read_from(bytes))
+}
+
+// The loaded sequencer, or `otherwise` after a refusal: the caller names the sequencer that stays in use.
+#[tactic(auto, using(outcome::proofs::Numbers::refusal_number_above))]
+pub fn sequencer_or(loaded: Result<Sequencer, Refused>, otherwise: Sequencer) -> Sequencer
+    ensures { result ≡ sequencer_or (load_of loaded) otherwise }
+{
+    match loaded {
+        Ok(sequencer) => sequencer,
+        Err(_) => otherwise,
+    }
 }

@@ -1,21 +1,29 @@
 -- Slices of any length: `save` writes a slice of `state_size` bytes as a whole and leaves any other slice unchanged. Only a slice of that
 -- length can hold a device.
 use Prim.Native.Nat.{ℕ}
-use mathlib.Core.Path.{◌≡◌, refl}
+use mathlib.Core.Path.{◌≡◌, refl, sym, ◌∙◌}
 use mathlib.Core.Bool.{Bool, true, false, cond, false≢true}
 use lib.Dec.{eqb}
 use mathlib.Core.List.{List}
 use lib.ListN.{length}
+use lib.Seq.{paste}
 use borrow.Author.Tests.{eq-eqb, eqb-true, ne_eqb}
 use Rattle.device.specs.Device.{fresh_device}
 use Rattle.device.specs.declared.Device.{Device}
+use Rattle.lists.proofs.Paste.{paste_whole}
 use Rattle.outcome.specs.Number as number
 use Rattle.outcome.specs.Refusal.{refusal}
+use Rattle.state.proofs.RoundTrip.{state_length}
 use Rattle.state.specs.State.{device_from, device_or, holds_device, is_saved, loaded, saved, state_bytes, state_size}
 
-pub saved_whole : (d : Device) (lent : List ℕ) → length lent ≡ state_size → saved d lent ≡ state_bytes d
+pub saved_bytes : (d : Device) (lent : List ℕ) → length lent ≡ state_size → saved d lent ≡ state_bytes d
 unfolding saved
-saved_whole d lent n = rw (eq-eqb (length lent) state_size n)
+saved_bytes d lent n = rw (eq-eqb (length lent) state_size n)
+
+pub saved_whole :
+    (d : Device) (lent bytes : List ℕ) → length lent ≡ state_size → bytes ≡ paste lent 0 (state_bytes d) (length (state_bytes d))
+    → bytes ≡ saved d lent
+saved_whole d lent bytes n e = e ∙ paste_whole lent (state_bytes d) (state_length d ∙ sym n) ∙ sym (saved_bytes d lent n)
 
 pub saved_not : (d : Device) (lent : List ℕ) → (length lent ≡ state_size → ⊥) → lent ≡ saved d lent
 unfolding saved

@@ -16,6 +16,7 @@ ghost use Rattle.state.specs.State.{
   saved,
   loaded,
   load_of,
+  device_or,
 };
 ghost use Rattle.outcome.specs.Refused.{refusal_in};
 
@@ -115,4 +116,15 @@ pub fn load(bytes: &[u8]) -> Result<Device, Refused>
         return Err(NO_DEVICE);
     }
     Ok(read_from(bytes))
+}
+
+// The loaded device, or `otherwise` after a refusal: the caller names the device that stays in use.
+#[tactic(auto, using(outcome::proofs::Numbers::refusal_number_above))]
+pub fn device_or(loaded: Result<Device, Refused>, otherwise: Device) -> Device
+    ensures { result ≡ device_or (load_of loaded) otherwise }
+{
+    match loaded {
+        Ok(device) => device,
+        Err(_) => otherwise,
+    }
 }

@@ -2,7 +2,6 @@
 // log. The loop of `sequencer` calls these functions and makes the access itself, and so does that of `interpreter`.
 // See docs/CHIP.md, "Words" and "Runs".
 ghost use Rattle.std.specs.Prelude.{◌≡◌, ◌≤◌, ◌<◌, ◌↔◌, length, drop};
-ghost use Rattle.device.specs.Owners.{owner_number};
 ghost use Rattle.record.specs.Record.{most_records};
 ghost use Rattle.record.specs.WordKinds.{word_kind_number};
 ghost use Rattle.semantics.specs.World.{events_after};
@@ -20,8 +19,6 @@ ghost use Rattle.step.specs.Represents.{ImplementsAccess, ControlReady, KeepsDev
 
 use crate::COUNTERS;
 use access::Access;
-use device::owner;
-use device::owner::Owner;
 use record::Record;
 use record::word_kind::WordKind;
 
@@ -38,7 +35,7 @@ pub struct Position {
 
 // The number of events taken, after the next one if the list has one. It is a number, because a run returns how many it took.
 #[tactic(auto, using(crate::proofs::Events::after_there, crate::proofs::Events::after_none))]
-fn events_taken(events: &[u32], taken: usize) -> usize
+pub fn events_taken(events: &[u32], taken: usize) -> usize
     requires { taken ≤ length events.now }
     ensures { (result ≤ length events.now) × (drop result events.now ≡ events_after (drop taken events.now)) }
 {
@@ -148,18 +145,18 @@ impl Position {
         kind: WordKind,
         mask: u32,
         target: u32,
-        owner: Option<Owner>,
+        owner: u32,
         value: u32,
         events: &[u32],
         log: &mut [u64],
     ) -> Self
         requires { AnswerReady kind self events.now log.old }
-        ensures { AnswerEffect kind mask target (owner_number owner) value events.now self log.old result log.new }
+        ensures { AnswerEffect kind mask target owner value events.now self log.old result log.new }
     {
         self.taken = events_taken(events, self.taken);
         match kind {
             WordKind::Read => {
-                log[self.logged] = log_entry::entry(owner::number(owner), value);
+                log[self.logged] = log_entry::entry(owner, value);
                 self.logged += 1;
                 self.place += 1;
             }

@@ -31,9 +31,10 @@ use Rattle.step.specs.Sequencer.{fresh_sequencer}
 use Rattle.step.specs.declared.Sequencer.{Sequencer}
 use Rattle.trace.specs.Trace.{budget, trace_summary}
 use Rattle.trace_text.proofs.Lines.{shown_is_printed_lem}
-use Rattle.trace_text.specs.Printed.{Summary, printed}
+use Rattle.trace_text.specs.Printed.{printed}
 use Rattle.trace_text.specs.Shown.{shown, summary_of}
 use Rattle.trace_text.specs.declared.RunSummary.{RunSummary}
+use Rattle.trace_text.specs.declared.Summary.{Summary}
 
 abbrev Small : ℕ → Type 0
 Small n = leb n ending.log_full ≡ true

@@ -6,7 +6,7 @@ use Rattle.correct.specs.CompilerCorrect.{words_written}
 use Rattle.device.specs.Device.{fresh_device}
 use Rattle.sequencer.specs.Run.{RunResult, log_after, run_answer}
 use Rattle.step.specs.Sequencer.{fresh_sequencer}
-use Rattle.trace_text.specs.Printed.{Summary}
+use Rattle.trace_text.specs.declared.Summary.{Summary}
 
 abbrev pub budget : ℕ
 budget = 100000

@@ -26,7 +26,10 @@ fn run_script(script: &[u8], image: &mut [u8], log: &mut [u64]) -> Result<RunSum
     ensures log { log.new ≡ trace_log script.now image.old log.old }
     ensures printed { shown result log.new ≡ printed (trace_summary script.now image.old log.old) log.new }
 {
-    let words = compiler::compile(script, image)?;
+    let words = match compiler::compile(script, image) {
+        Ok(words) => words,
+        Err(refused) => return Err(refused),
+    };
     let end = Record::SIZE * words as usize;
     let run = sequencer::run(
         &image[..end],

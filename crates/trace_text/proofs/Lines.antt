@@ -2,12 +2,13 @@
 use Rattle.std.proofs.Common.{◌≡◌, ℕ, zero, suc, ◌+◌, ◌*◌, ◌<◌, ◌≤◌, true, false, List, [], ◌∷◌, ◌++◌, length, take, get_or, refl, ap, ◌∙◌, arith, length-append, Result, Ok, Err}
 use borrow.Author.Tests.{lt-leb}
 use Rattle.std.specs.List.{flat_map}
-use Rattle.digits.proofs.Puts.{decimal_length}
+use Rattle.digits.proofs.Puts.{decimal_length, puts_whole}
 use Rattle.digits.proofs.Writes.{writes_piece, writes_twice}
 use Rattle.digits.specs.Text.{decimal_text, hex_text, line_at, puts}
 use Rattle.digits.specs.Written.{writes}
 use Rattle.digits.specs.declared.Writer.{Writer}
 use Rattle.log_entry.specs.Entry.{entry_owner, entry_value, log_entry}
+use Rattle.mask.proofs.Branch.{branch}
 use Rattle.outcome.specs.Number as number
 use Rattle.outcome.specs.Refused.{ending_number, refusal_number}
 use Rattle.outcome.specs.declared.Ending.{Ending}
@@ -34,11 +35,12 @@ use Rattle.outcome.specs.declared.RefusalKind.TheVariants.{
 }
 use Rattle.outcome.specs.declared.Refused.{Refused}
 use Rattle.refusal_text.proofs.Line.{all_put, numbers_length}
-use Rattle.refusal_text.specs.Refused.{Put}
+use Rattle.refusal_text.specs.Refused.{Put, refused_text}
 use Rattle.sequencer.specs.Run.{is_refusal}
 use Rattle.trace_text.specs.Printed.{end_text, log_size, printed, read_text, reads_text, text_size, unlock_text}
 use Rattle.trace_text.specs.Shown.{shown, summary_of}
 use Rattle.trace_text.specs.declared.RunSummary.{RunSummary}
+use Rattle.trace_text.specs.declared.Summary.{Summary}
 
 -- the pieces of a line, put one after the other, are the text of the line
 pub pieces_put : (entry v o : ℕ) (w : Writer) → v ≡ entry_value entry → o ≡ entry_owner entry
@@ -106,19 +108,46 @@ reads_length (e ∷ es) =
     let h = reads_length es in
     omega (arith, a, r, h)
 
-shown_length : (r : Result RunSummary Refused) (log : List ℕ) → length log ≤ log_size → length (shown r log) ≤ text_size
-shown_length (Ok r) log h =
-    let a = length-append (reads_text (take r.logged log)) (end_text (ending_number r.ending) r.steps) in
-    let b = reads_length (take r.logged log) in
-    let m = at_most r.logged log in
-    let n = numbers_length (ending_number r.ending) r.steps in
-    omega (arith, a, b, m.1, n, h)
-shown_length (Err f) log h = let n = numbers_length (refusal_number f.kind) f.place in omega (arith, n)
+refusal_length : (number place : ℕ) → length (refused_text number place) ≤ text_size
+refusal_length number place = let n = numbers_length number place in omega (arith, n)
 
--- so it is put completely
-pub whole : (text after : List ℕ) (n : ℕ) (r : Result RunSummary Refused) (log : List ℕ) → length text ≡ text_size → length log ≤ log_size
-    → line_at after n ≡ puts (shown r log) (line_at text 0) → Put (shown r log) after n
-whole text after n r log l h e =
+run_length : (logged outcome steps : ℕ) (log : List ℕ) → length log ≤ log_size
+    → length (reads_text (take logged log) ++ end_text outcome steps) ≤ text_size
+run_length logged outcome steps log h =
+    let a = length-append (reads_text (take logged log)) (end_text outcome steps) in
+    let b = reads_length (take logged log) in
+    let m = at_most logged log in
+    let n = numbers_length outcome steps in
+    omega (arith, a, b, m.1, n, h)
+
+printed_length : (r : Summary) (log : List ℕ) → length log ≤ log_size → length (printed r log) ≤ text_size
+printed_length r log h =
+    branch (λ (t : List ℕ). length t ≤ text_size) (is_refusal r.outcome) (refusal_length r.outcome r.place)
+    (run_length r.logged r.outcome r.steps log h)
+
+shown_length : (r : Result RunSummary Refused) (log : List ℕ) → length log ≤ log_size → length (shown r log) ≤ text_size
+shown_length (Ok r) log h = run_length r.logged (ending_number r.ending) r.steps log h
+shown_length (Err f) log h = refusal_length (refusal_number f.kind) f.place
+
+-- the text is put completely: the index after it is its length
+pub whole : (text : List ℕ) (r : Summary) (log : List ℕ) → length text ≡ text_size → length log ≤ log_size
+    → (puts (printed r log) (line_at text 0)).at ≡ length (printed r log)
+whole text r log l h =
+    let n = printed_length r log h in
+    let w = puts_whole (printed r log) (line_at text 0) (omega (arith, n, l)) in
+    omega (arith, w)
+
+-- so it is in the front of the buffer
+pub whole_printed : (text after : List ℕ) (n : ℕ) (r : Summary) (log : List ℕ) → length text ≡ text_size → length log ≤ log_size
+    → line_at after n ≡ puts (printed r log) (line_at text 0) → Put (printed r log) after n
+whole_printed text after n r log l h e =
+    let most = printed_length r log h in
+    all_put (printed r log) text after n (omega (arith, most, l)) e
+
+-- the same of the text that is shown
+pub whole_shown : (text after : List ℕ) (n : ℕ) (r : Result RunSummary Refused) (log : List ℕ) → length text ≡ text_size
+    → length log ≤ log_size → line_at after n ≡ puts (shown r log) (line_at text 0) → Put (shown r log) after n
+whole_shown text after n r log l h e =
     let most = shown_length r log h in
     all_put (shown r log) text after n (omega (arith, most, l)) e
 

@@ -4,6 +4,7 @@ use Rattle.digits.specs.Text.{decimal_text, hex_text}
 use Rattle.log_entry.specs.Entry.{entry_owner, entry_value}
 use Rattle.refusal_text.specs.Refused.{numbers_text, refused_text}
 use Rattle.sequencer.specs.Run.{is_refusal}
+use Rattle.trace_text.specs.declared.Summary.{Summary}
 
 -- "It prints `READ` and eight upper-case hex digits per logged value". A later request: "each `READ` line of 01 gains a space and this
 -- digit", the number of the owner
@@ -18,13 +19,6 @@ reads_text (e ∷ es) = read_text e ++ reads_text es
 -- "then `END`, outcome, steps"
 abbrev pub end_text : ℕ → ℕ → List ℕ
 end_text outcome steps = 0x45 ∷ 0x4E ∷ 0x44 ∷ 0x20 ∷ numbers_text outcome steps
-
--- the numbers of an answer that the text shows: `outcome` is the ending or the number of a refusal, `place` the place of a refusal
-pub record Summary : Type 0 where
-  pub outcome : ℕ
-  pub place : ℕ
-  pub steps : ℕ
-  pub logged : ℕ
 
 -- the whole text: of the first entries, as many as were logged, and of the ending; "or only `REFUSED`, number, place (decimal)"
 abbrev pub printed : Summary → List ℕ → List ℕ

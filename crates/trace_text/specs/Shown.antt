@@ -4,8 +4,9 @@ use Rattle.std.specs.Prelude.{ℕ, List, ◌++◌, take, Result, Ok, Err}
 use Rattle.outcome.specs.Refused.{ending_number, refusal_number}
 use Rattle.outcome.specs.declared.Refused.{Refused}
 use Rattle.refusal_text.specs.Refused.{refused_text}
-use Rattle.trace_text.specs.Printed.{Summary, end_text, reads_text}
+use Rattle.trace_text.specs.Printed.{end_text, reads_text}
 use Rattle.trace_text.specs.declared.RunSummary.{RunSummary}
+use Rattle.trace_text.specs.declared.Summary.{Summary}
 
 abbrev pub summary_of : Result RunSummary Refused → Summary
 summary_of (Ok r) = record { outcome = ending_number r.ending; place = 0; steps = r.steps; logged = r.logged }

@@ -2,11 +2,12 @@
 // refusal. `print` puts all of it into a buffer and writes it at once. specs/Printed.antt defines it.
 #![tactic(auto)]
 
-ghost use Rattle.std.specs.Prelude.{◌≡◌, ◌<◌, length, take};
+ghost use Rattle.std.specs.Prelude.{◌≡◌, ◌<◌, length, take, Result};
 ghost use Rattle.digits.specs.Text.{line_at, puts};
 ghost use Rattle.digits.specs.Written.{writes};
 ghost use Rattle.outcome.specs.Number as number;
 ghost use Rattle.refusal_text.specs.Refused.{Put};
+ghost use Rattle.sequencer.specs.Run.{is_refusal};
 ghost use Rattle.trace_text.specs.Printed.{read_text, reads_text, end_text, printed};
 ghost use Rattle.trace_text.specs.Shown.{shown, summary_of};
 
@@ -20,6 +21,36 @@ pub struct RunSummary {
     pub ending: Ending,
     pub steps: u32,
     pub logged: usize,
+}
+
+// The numbers of an answer that the text shows. `outcome` is the ending or the number of a refusal, `place` the place of a refusal.
+#[derive(Clone, Copy)]
+pub struct Summary {
+    pub outcome: u32,
+    pub place: u32,
+    pub steps: u32,
+    pub logged: usize,
+}
+
+impl From<Result<RunSummary, Refused>> for Summary {
+    ghost from_gives = { λ r s. s ≡ summary_of r };
+
+    fn from(summary: Result<RunSummary, Refused>) -> Self {
+        match summary {
+            Ok(run) => Summary {
+                outcome: run.ending.number(),
+                place: 0,
+                steps: run.steps,
+                logged: run.logged,
+            },
+            Err(refused) => Summary {
+                outcome: refused.kind.number(),
+                place: refused.place,
+                steps: 0,
+                logged: 0,
+            },
+        }
+    }
 }
 
 // Puts the value and the owner of an entry.
@@ -53,17 +84,23 @@ fn put_end(text: &mut Writer, outcome: u32, steps: u32)
     refusal_text::put_numbers(text, outcome, steps);
 }
 
+// Whether an outcome is the number of a refusal, and not an ending.
+fn is_refusal(outcome: u32) -> bool
+    ensures { result ≡ is_refusal outcome }
+{
+    outcome != Ending::Halted.number() && outcome < Ending::BudgetSpent.number()
+}
+
 // Puts the whole text.
 #[tactic(auto, using(digits::proofs::Writes::writes_twice, std::proofs::lemmas::List::take_min))]
-fn put_result(text: &mut Writer, summary: Result<RunSummary, Refused>, log: &[u64])
-    ensures { text.new ≡ writes (shown summary log.now) text.old }
+fn put_result(text: &mut Writer, summary: Summary, log: &[u64])
+    ensures { text.new ≡ writes (printed summary log.now) text.old }
 {
-    match summary {
-        Ok(run) => {
-            put_reads(text, &log[..run.logged.min(log.len())]);
-            put_end(text, run.ending.number(), run.steps);
-        }
-        Err(refused) => refusal_text::put_refusal(text, refused.kind.number(), refused.place),
+    if is_refusal(summary.outcome) {
+        refusal_text::put_refusal(text, summary.outcome, summary.place);
+    } else {
+        put_reads(text, &log[..summary.logged.min(log.len())]);
+        put_end(text, summary.outcome, summary.steps);
     }
 }
 
@@ -80,16 +117,14 @@ pub const LOG_SIZE: usize = 1024;
 // allows an owner any 32-bit number.
 pub const TEXT_SIZE: usize = 25626;
 
-// Puts the whole text, for which the buffer has room, and returns its length: `Put` says where the bytes are.
+// Puts the whole text, for which the buffer has room, and returns its length: `Put` says where the bytes are. The numbers may be any: for those of a
+// run or of its refusal the text is `shown`.
 #[tactic(auto, using(digits::proofs::Writes::writes_same_line))]
-pub fn put_whole(
-    text: &mut [u8; TEXT_SIZE],
-    summary: Result<RunSummary, Refused>,
-    log: &[u64; LOG_SIZE],
-) -> usize
-    ensures whole { Put (shown summary log.now) text.new result }
-    ensures line { line_at text.new result ≡ puts (shown summary log.now) (line_at text.old 0) }
-    ensures printed { (summary_of summary).outcome < number.line_too_long → shown summary log.now ≡ printed (summary_of summary) log.now }
+pub fn put_whole(text: &mut [u8; TEXT_SIZE], summary: Summary, log: &[u64; LOG_SIZE]) -> usize
+    ensures whole { Put (printed summary log.now) text.new result }
+    ensures counted { result ≡ length (printed summary log.now) }
+    ensures line { line_at text.new result ≡ puts (printed summary log.now) (line_at text.old 0) }
+    ensures shown { (r : Result RunSummary Refused) → summary ≡ summary_of r → summary.outcome < number.line_too_long → shown r log.now ≡ printed summary log.now }
 {
     let mut writer = Writer::new(text);
     put_result(&mut writer, summary, log);
@@ -103,6 +138,6 @@ pub fn print(
     log: &[u64; LOG_SIZE],
 ) -> io::Result<()> {
     let mut text = [0; TEXT_SIZE];
-    let length = put_whole(&mut text, summary, log);
+    let length = put_whole(&mut text, Summary::from(summary), log);
     output.write_all(&text[..length])
 }

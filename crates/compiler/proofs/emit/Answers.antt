@@ -1,19 +1,18 @@
 -- `emit` writes the words of the script to the front of the image.
-use Rattle.std.proofs.Common.{None, Some, arith, refl, ◌∙◌}
-use Rattle.std.proofs.lemmas.List.{get_or_default}
+use Rattle.std.proofs.Common.{arith, refl, sym}
 use Rattle.compiler.proofs.Emitting.{begins, completes, goes_on, has_room, passes}
 use Rattle.compiler.proofs.Targets.{kind_known}
 use Rattle.compiler.proofs.emit.Goals as goal
-use Rattle.compiler.proofs.emit.Goals.{in-Some, in_default}
+use Rattle.compiler.proofs.emit.Goals.{else-emits_word, then-emits_word}
 
 pub loop-k-init : goal.loop-k-init
-loop-k-init c = begins _ _ _ _ refl c.requires.accepted c.requires.room c.fill_targets.ensures.targets c.fill_targets.ensures.words
+loop-k-init c = begins _ _ _ _ refl c.requires.accepted c.requires.room c.fill_targets.ensures
 
-pub bounds : goal.bounds
-bounds c = let few = c.loop-k.invariant.counted.few in omega arith
+pub bounds-targets-k : goal.bounds-targets-k
+bounds-targets-k c = let few = c.loop-k.invariant.counted.few in omega arith
 
-pub kind_of-requires : goal.kind_of-requires
-kind_of-requires c = rw c.read-r.ensures (kind_known _ _ c.requires.accepted c.loop-k-test.true)
+pub kind_of-kind-requires : goal.kind_of-kind-requires
+kind_of-kind-requires c = rw c.read-r.ensures (kind_known _ _ c.requires.accepted c.loop-k-test.true)
 
 pub put-requires : goal.put-requires
 put-requires c = has_room c.loop-k.invariant
@@ -25,13 +24,13 @@ pub loop-k-preserved : goal.loop-k-preserved
 loop-k-preserved c =
     let g = c.loop-k.invariant in
     let t = c.loop-k-test.true in
-    -- the definitions read 0 after the end of the table
-    let entry = get_or_default c.fill_targets.new.targets c.loop-k.k (Some 0) None (let few = g.counted.few in omega arith) in
-    elim c.match-targets-k.branch [
-      | in-Some w ↦
+    elim c.if-emits_word.branch [
+      | then-emits_word w ↦
           rw (w.image-is, w.place-is)
-          (goes_on g t c.read-r.ensures (entry ∙ w.in-Some.is) (rw (w.word_kind-kind.ensures, w.kind_of.ensures) at w.word.ensures) w.put.ensures w.put.auto.image)
-      | in_default w ↦ rw (w.image-is, w.place-is) (passes g t c.read-r.ensures (entry ∙ w.in_default.is))
+          (goes_on g t c.read-r.ensures c.kind_of-kind.ensures (sym w.if-emits_word.ensures) (rw w.word_kind.ensures at w.word.ensures)
+          w.put.ensures w.put.auto.image)
+      | else-emits_word w ↦
+          rw (w.image-is, w.place-is) (passes g t c.read-r.ensures c.kind_of-kind.ensures (sym w.if-emits_word.ensures))
     ]
 
 pub put-requires-2 : goal.put-requires-2

@@ -32,7 +32,7 @@ loop-k-preserved c =
       | in-End w ↦
           let popped = rw w.unwrap-opened.ensures at w.pop-in-End.ensures.some in
           let e = sym (w.in-End.ensures ∙ c.kind_at.ensures) in
-          rw (w.targets-is, w.open-is, w.place-is)
+          rw (w.targets-is, w.unwrap_or.ensures, w.open-is, w.place-is)
           (elim w.if-is_some.branch [
             | then-is_some v ↦ rw v.place-is (repeat_ended (rw popped at g) t e (sym v.if-is_some.ensures))
             | else-is_some v ↦ rw v.place-is (if_ended (rw popped at g) t e (sym v.if-is_some.ensures))

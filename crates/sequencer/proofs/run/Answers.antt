@@ -2,7 +2,7 @@
 use Rattle.std.proofs.Common.{ap, sym}
 use Rattle.std.proofs.lemmas.Result.{err_from_is_err_and}
 use Rattle.outcome.specs.Refusal.{Refusal}
-use Rattle.sequencer.proofs.Answers.{allowed, done, few_words_lem, refused}
+use Rattle.sequencer.proofs.Answers.{allowed, done, few_words_lem, refused_by_code}
 use Rattle.sequencer.proofs.run.Goals as goal
 
 pub returns-in_err-run_refusal-clause-value : goal.returns-in_err-run_refusal-clause-value
@@ -10,7 +10,7 @@ returns-in_err-run_refusal-clause-value c =
     let e = c.args in
     let p = err_from_is_err_and c.from_residual.result c.from_residual.ensures.1 in
     rw (p.1, p.2)
-    (refused e.image.now e.device e.sequencer e.events.now e.budget e.log.now c.in_err-run_refusal.field-0.0 c.in_err-run_refusal.ensures)
+    (refused_by_code e.image.now e.device e.sequencer e.events.now e.budget e.log.now c.in_err-run_refusal.field-0.0 c.in_err-run_refusal.ensures)
 
 pub run_words-requires : goal.run_words-requires
 run_words-requires c =

@@ -94,7 +94,7 @@ loop-steps-preserved c =
           let ready = log_ready _ c.loop-steps.position c.in-Ok.kind word c.loop-steps.log kind c.in-Ok.ensures.0 in
           rw (w.log-is, w.last-is, w.position-is, w.counters-is)
           (further _ _ g c.loop-steps-test.true k (λ h. a.1 (kind ∙ h))
-          (answered c.in-Ok.kind word _ _ _ _ _ _ _ kind a.0 ready w.apply_answer-position.ensures _ _ _ _ arrived done refl refl) w.apply_answer-position.auto.log)
+          (answered c.in-Ok.kind word _ _ _ _ _ _ _ kind a.0 ready w.apply_answer-position.ensures _ _ _ _ arrived done (sym w.number-in-Write.ensures) refl) w.apply_answer-position.auto.log)
     ]
 
 -- ---- the budget is spent

@@ -3,7 +3,7 @@
 use Rattle.std.proofs.Common.{ℕ, ◌≡◌, sym, ap, ◌∙◌, arith, get_or}
 use Rattle.access.specs.Block.{Result, with_block}
 use Rattle.access.specs.declared.Access.{Access}
-use Rattle.access.specs.Status.{Answer}
+use Rattle.access.specs.Status.{Answer, status_only}
 use Rattle.device.proofs.Claims.{acpi_owns, config_owns, key_byte, key_owns, monitor_owns}
 use Rattle.device.specs.Device.{with_acpi, with_config, with_key, with_monitor}
 use Rattle.device.specs.Dispatch.{answered_by, answers, dispatch, owned_by, unclaimed}
@@ -77,4 +77,5 @@ returns-in-Key c =
 pub returns-in_default : goal.returns-in_default
 returns-in_default c =
     by_owner c.args.self c.args.access nobody _ (sym c.in_default.ensures)
-    (ap (λ (a : Answer). with_block a c.args.self) c.status_only.ensures)
+    (ap (λ (a : Answer). with_block a c.args.self) c.status_only.ensures
+    ∙ ap (λ (n : ℕ). with_block (status_only n) c.args.self) c.number.ensures)

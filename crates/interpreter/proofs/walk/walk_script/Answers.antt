@@ -136,7 +136,8 @@ loop-steps-preserved c =
           let full = rw k at (sym c.log_full.ensures ∙ c.if-log_full.false) in
           rw (w.log-is, w.last-is, w.position-is, w.counters-is)
           (accessed g q _ m few c.read-r.ensures refl l _ _ _ _ arrived done
-          (answer_effect c.kind_of-kind.result w.word_kind.result k w.word_kind.ensures w.in-Write.is w.apply_answer-position.ensures)
+          (answer_effect c.kind_of-kind.result w.word_kind.result k w.word_kind.ensures w.in-Write.is
+          (rw w.number-in-Write.ensures at w.apply_answer-position.ensures))
           w.apply_answer-position.auto.log (accesses c.kind_of-kind.result k w.in-Write.is) full)
       | in-Delay w ↦
           rw (w.log-is, w.last-is, w.position-is, w.counters-is)
