@@ -29,6 +29,15 @@ module _ (r : Record) (h : shape_fault r ≡ 0) where
   unfolding shape_fault
   none = none_from (wrong_mark r ∷ bad_kind r ∷ bad_fields r ∷ []) 2 (omega arith) h
 
+  known : (leb 1 r.kind && leb r.kind 7) ≡ true
+  known = not-false (leb 1 r.kind && leb r.kind 7) (none 1)
+
+  pub kind_least : 1 ≤ r.kind
+  kind_least = leb-true 1 r.kind (both (leb 1 r.kind) (leb r.kind 7) known).0
+
+  pub kind_most : r.kind ≤ 7
+  kind_most = leb-true r.kind 7 (both (leb 1 r.kind) (leb r.kind 7) known).1
+
   fields : kind_fields 5 r ≡ true
   fields = (both (eqb r.target 0) (kind_fields 5 r) (not-false (good_fields r) (none 2))).1
 

@@ -271,7 +271,7 @@ fn put_listing(script: &[u8], text: &mut Writer)
     // By place, as in `measure`.
     for k in 0..script.len() / Record::SIZE {
         let r = record::read(script, Record::SIZE * k);
-        let s = ShapedRecord::new(r).unwrap();
+        let s = ShapedRecord::of(r);
         put_line(text, depth, s);
         depth = depth_after(depth, s.kind);
     }

@@ -6,7 +6,7 @@ ghost use Rattle.script.specs.Scan.{shape_fault};
 
 use outcome::RefusalKind;
 use record::Record;
-use script::kind::RecordKind;
+use script::kind::{RecordKind, kind_of};
 
 // A record with none of the faults 2 to 4, and its kind.
 #[derive(Clone, Copy)]
@@ -25,5 +25,17 @@ impl ShapedRecord {
     {
         let kind = script::shape_fault(fields)?;
         Ok(ShapedRecord { kind, fields })
+    }
+
+    // A record that is known to have no fault. The listing is put after it was measured, so no fault is looked for a second time.
+    #[tactic(auto, using(crate::proofs::Records::kind_least, crate::proofs::Records::kind_most))]
+    pub fn of(fields: Record) -> ShapedRecord
+        requires { shape_fault fields ≡ 0 }
+        ensures { result.fields ≡ fields }
+    {
+        ShapedRecord {
+            kind: kind_of(fields.kind),
+            fields,
+        }
     }
 }

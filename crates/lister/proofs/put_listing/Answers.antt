@@ -8,6 +8,5 @@ loop-k-init c = putting _ _ c.requires
 
 pub loop-k-preserved : goal.loop-k-preserved
 loop-k-preserved c =
-    let fields = rw c.unwrap-s.ensures at c.new.ensures.fields in
-    put_more c.loop-k.invariant _ _ _ c.loop-k-test.true (fields ∙ c.read-r.ensures) c.put_line.ensures
-    (rw c.unwrap-s.result.kind_of at c.depth_after-depth.ensures)
+    put_more c.loop-k.invariant _ _ _ c.loop-k-test.true (c.of-s.ensures ∙ c.read-r.ensures) c.put_line.ensures
+    (rw c.of-s.result.kind_of at c.depth_after-depth.ensures)
