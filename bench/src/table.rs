@@ -24,29 +24,35 @@ fn repetition_at(place: usize, row: &Row, side: Side) -> (u64, Done, Buffers) {
     result
 }
 
-/// The times of each program, sorted, measured in turns, with the program that goes first changing. An error if their results differ.
-fn times(row: &Row) -> Result<(Vec<Vec<u64>>, Done), String> {
+/// One turn: each program once, with the program that goes first changing. The first turn warms up the machine and is not counted. An error if
+/// the results of the programs differ.
+fn turn(k: usize, row: &Row, times: &mut [Vec<u64>]) -> Result<Done, String> {
     let sides = row.work.sides();
-    let mut times = vec![Vec::new(); sides.len()];
-    let mut last = None;
-    for k in 0..=REPETITIONS {
-        let mut previous: Option<(Done, Buffers)> = None;
-        for turn in 0..sides.len() {
-            let side = (k + turn) % sides.len();
-            let (time, done, buffers) = repetition_at(k, row, sides[side]);
-            if previous.as_ref().is_some_and(|previous| previous.0 != done || previous.1 != buffers) {
-                return Err(format!("{}: the programs gave different results: {:?} {done:?}", row.name, previous.map(|previous| previous.0)));
-            }
-            // The first repetition warms up the machine and is not counted.
-            if k > 0 {
-                times[side].push(time);
-            }
-            previous = Some((done, buffers));
+    let mut previous: Option<(Done, Buffers)> = None;
+    for turn in 0..sides.len() {
+        let side = (k + turn) % sides.len();
+        let (time, done, buffers) = repetition_at(k, row, sides[side]);
+        if previous.as_ref().is_some_and(|previous| previous.0 != done || previous.1 != buffers) {
+            return Err(format!("{}: the programs gave different results: {:?} {done:?}", row.name, previous.map(|previous| previous.0)));
         }
-        last = previous;
+        if k > 0 {
+            times[side].push(time);
+        }
+        previous = Some((done, buffers));
     }
-    times.iter_mut().for_each(|times| times.sort_unstable());
-    Ok((times, last.expect("at least one repetition").0))
+    Ok(previous.expect("at least one program").0)
+}
+
+/// The times of each program in each row, sorted, and the results. The rows are measured in turns too: the machine is faster or slower for seconds
+/// at a time, and then all rows are.
+fn times(rows: &[&Row]) -> Result<Vec<(Vec<Vec<u64>>, Done)>, String> {
+    let mut times: Vec<Vec<Vec<u64>>> = rows.iter().map(|row| vec![Vec::new(); row.work.sides().len()]).collect();
+    let mut last = Vec::new();
+    for k in 0..=REPETITIONS {
+        last = rows.iter().zip(&mut times).map(|(row, times)| turn(k, row, times)).collect::<Result<_, _>>()?;
+    }
+    times.iter_mut().flatten().for_each(|times| times.sort_unstable());
+    Ok(times.into_iter().zip(last).collect())
 }
 
 /// The head of a table, by the number of programs.
@@ -69,7 +75,7 @@ pub fn print(part: &str) -> Result<(), String> {
             continue;
         }
         seen = true;
-        let (times, done) = times(&row)?;
+        let (times, done) = times(&[&row])?.remove(0);
         let (items, item) = row.items(&done);
         if row.group != group {
             group = row.group;
@@ -95,9 +101,10 @@ pub fn print(part: &str) -> Result<(), String> {
 /// Checks that a test that fails costs the interpreter the same over 1,000 records as over one: the times of the two rows may differ by half.
 pub fn check_failed_tests() -> Result<(), String> {
     const MOST: f64 = 1.5;
+    let rows = rows(Size::Full);
+    let rows: Vec<&Row> = rows.iter().filter(|row| row.name.contains(FAILED_TEST)).collect();
     let mut costs = Vec::new();
-    for row in rows(Size::Full).iter().filter(|row| row.name.contains(FAILED_TEST)) {
-        let (times, done) = times(row)?;
+    for (row, (times, done)) in rows.iter().zip(times(&rows)?) {
         let cost = times[0][0] as f64 / row.items(&done).0 as f64;
         println!("{}: {cost:.2} ns per step", row.name);
         costs.push(cost);
