@@ -151,6 +151,20 @@ whole_shown text after n r log l h e =
     let most = shown_length r log h in
     all_put (shown r log) text after n (omega (arith, most, l)) e
 
+-- the line of a refusal
+pub refusal_counted : (text : List ℕ) (number place : ℕ) → length text ≡ text_size
+    → (puts (refused_text number place) (line_at text 0)).at ≡ length (refused_text number place)
+refusal_counted text number place l =
+    let n = refusal_length number place in
+    let w = puts_whole (refused_text number place) (line_at text 0) (omega (arith, n, l)) in
+    omega (arith, w)
+
+pub refusal_whole : (text after : List ℕ) (n number place : ℕ) → length text ≡ text_size
+    → line_at after n ≡ puts (refused_text number place) (line_at text 0) → Put (refused_text number place) after n
+refusal_whole text after n number place l e =
+    let most = refusal_length number place in
+    all_put (refused_text number place) text after n (omega (arith, most, l)) e
+
 -- ---- the text is what document 01 says of the numbers of a run and of its refusals; a text is refused with 30 or above
 no_refusal : (e : Ending) → is_refusal (ending_number e) ≡ false
 no_refusal Halted = refl

@@ -2,11 +2,15 @@
 // refusal. `print` puts all of it into a buffer and writes it at once. specs/Printed.antt defines it.
 #![tactic(auto)]
 
+#[cfg(test)]
+mod tests;
+
 ghost use Rattle.std.specs.Prelude.{◌≡◌, ◌<◌, length, take, Result};
 ghost use Rattle.digits.specs.Text.{line_at, puts};
 ghost use Rattle.digits.specs.Written.{writes};
 ghost use Rattle.outcome.specs.Number as number;
-ghost use Rattle.refusal_text.specs.Refused.{Put};
+ghost use Rattle.outcome.specs.Refused.{refusal_number};
+ghost use Rattle.refusal_text.specs.Refused.{Put, refused_text};
 ghost use Rattle.sequencer.specs.Run.{is_refusal};
 ghost use Rattle.trace_text.specs.Printed.{read_text, reads_text, end_text, printed};
 ghost use Rattle.trace_text.specs.Shown.{shown, summary_of};
@@ -117,10 +121,10 @@ pub const LOG_SIZE: usize = 1024;
 // allows an owner any 32-bit number.
 pub const TEXT_SIZE: usize = 25626;
 
-// Puts the whole text, for which the buffer has room, and returns its length: `Put` says where the bytes are. The numbers may be any: for those of a
-// run or of its refusal the text is `shown`.
+// Puts the whole text of any numbers, for which the buffer has room, and returns its length: `Put` says where the bytes are. For the numbers of a run
+// or of its refusal the text is `shown`. `print` calls it.
 #[tactic(auto, using(digits::proofs::Writes::writes_same_line))]
-pub fn put_whole(text: &mut [u8; TEXT_SIZE], summary: Summary, log: &[u64; LOG_SIZE]) -> usize
+pub fn put_summary(text: &mut [u8; TEXT_SIZE], summary: Summary, log: &[u64; LOG_SIZE]) -> usize
     ensures whole { Put (printed summary log.now) text.new result }
     ensures counted { result ≡ length (printed summary log.now) }
     ensures line { line_at text.new result ≡ puts (printed summary log.now) (line_at text.old 0) }
@@ -131,6 +135,36 @@ pub fn put_whole(text: &mut [u8; TEXT_SIZE], summary: Summary, log: &[u64; LOG_S
     writer.len()
 }
 
+// Puts the line of a refusal, for which the buffer has room, and returns its length.
+#[tactic(auto, using(digits::proofs::Writes::writes_same_line))]
+fn put_refused(text: &mut [u8; TEXT_SIZE], refused: Refused) -> usize
+    ensures whole { Put (refused_text (refusal_number refused.kind) refused.place) text.new result }
+    ensures counted { result ≡ length (refused_text (refusal_number refused.kind) refused.place) }
+    ensures line { line_at text.new result ≡ puts (refused_text (refusal_number refused.kind) refused.place) (line_at text.old 0) }
+{
+    let mut writer = Writer::new(text);
+    refusal_text::put_refusal(&mut writer, refused.kind.number(), refused.place);
+    writer.len()
+}
+
+// Puts the whole text of the result of a run. The text of any refusal is the line of a refusal: for the number of a refusal of a text, 30 or above,
+// `put_summary` puts an ending, as document 01 has these numbers for texts alone.
+pub fn put_whole(
+    text: &mut [u8; TEXT_SIZE],
+    summary: Result<RunSummary, Refused>,
+    log: &[u64; LOG_SIZE],
+) -> usize
+    ensures whole { Put (shown summary log.now) text.new result }
+    ensures counted { result ≡ length (shown summary log.now) }
+    ensures line { line_at text.new result ≡ puts (shown summary log.now) (line_at text.old 0) }
+    ensures printed { (summary_of summary).outcome < number.line_too_long → shown summary log.now ≡ printed (summary_of summary) log.now }
+{
+    match summary {
+        Ok(_) => put_summary(text, Summary::from(summary), log),
+        Err(refused) => put_refused(text, refused),
+    }
+}
+
 // Prints the text. It is written at once.
 pub fn print(
     output: &impl Print,
@@ -138,6 +172,6 @@ pub fn print(
     log: &[u64; LOG_SIZE],
 ) -> io::Result<()> {
     let mut text = [0; TEXT_SIZE];
-    let length = put_whole(&mut text, Summary::from(summary), log);
+    let length = put_summary(&mut text, Summary::from(summary), log);
     output.write_all(&text[..length])
 }

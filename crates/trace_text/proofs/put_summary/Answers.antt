@@ -1,4 +1,4 @@
--- `put_whole` puts the whole text: `put_result` puts it, and the buffer has room for it (`whole` in Lines.antt).
+-- `put_summary` puts the whole text of any numbers: `put_result` puts it, and the buffer has room for it (`whole` in Lines.antt).
 use Rattle.std.proofs.Common.{◌≡◌, ◌≤◌, length, sym, ap, ◌∙◌, arith}
 use Rattle.digits.specs.Text.{Line, line_at, puts}
 use Rattle.digits.specs.Written.{written}
@@ -6,7 +6,7 @@ use Rattle.digits.proofs.Writes.{writes_written}
 use Rattle.trace_text.proofs.Lines.{shown_is_printed_lem, whole, whole_printed}
 use Rattle.trace_text.specs.Printed.{printed, text_size, log_size}
 use Rattle.trace_text.specs.declared.Summary.{Summary}
-use Rattle.trace_text.proofs.put_whole.Goals as goal
+use Rattle.trace_text.proofs.put_summary.Goals as goal
 
 pub returns : goal.returns
 returns c =
