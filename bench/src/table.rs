@@ -43,7 +43,7 @@ fn turn(k: usize, row: &Row, times: &mut [Vec<u64>]) -> Result<Done, String> {
     Ok(previous.expect("at least one program").0)
 }
 
-/// The times of each program in each row, sorted, and the results. The rows are measured in turns too: the machine is faster or slower for seconds
+/// The times of each program in each row, a time for each turn, and the results. The rows are measured in turns too: the machine is faster or slower for seconds
 /// at a time, and then all rows are.
 fn times(rows: &[&Row]) -> Result<Vec<(Vec<Vec<u64>>, Done)>, String> {
     let mut times: Vec<Vec<Vec<u64>>> = rows.iter().map(|row| vec![Vec::new(); row.work.sides().len()]).collect();
@@ -51,8 +51,13 @@ fn times(rows: &[&Row]) -> Result<Vec<(Vec<Vec<u64>>, Done)>, String> {
     for k in 0..=REPETITIONS {
         last = rows.iter().zip(&mut times).map(|(row, times)| turn(k, row, times)).collect::<Result<_, _>>()?;
     }
-    times.iter_mut().flatten().for_each(|times| times.sort_unstable());
     Ok(times.into_iter().zip(last).collect())
+}
+
+fn median(values: &[f64]) -> f64 {
+    let mut sorted = values.to_vec();
+    sorted.sort_unstable_by(f64::total_cmp);
+    sorted[sorted.len() / 2]
 }
 
 /// The head of a table, by the number of programs.
@@ -75,7 +80,8 @@ pub fn print(part: &str) -> Result<(), String> {
             continue;
         }
         seen = true;
-        let (times, done) = times(&[&row])?.remove(0);
+        let (mut times, done) = times(&[&row])?.remove(0);
+        times.iter_mut().for_each(|times| times.sort_unstable());
         let (items, item) = row.items(&done);
         if row.group != group {
             group = row.group;
@@ -98,22 +104,27 @@ pub fn print(part: &str) -> Result<(), String> {
     }
 }
 
-/// Checks that a test that fails costs the interpreter the same over 1,000 records as over one: the times of the two rows may differ by half.
+/// Checks that a test that fails costs the interpreter the same over 1,000 records as over one: the times of the two rows may differ by half. What is
+/// compared is the two times of a turn, and the median of the turns counts: the least times of the rows can be of turns between which the machine
+/// became faster.
 pub fn check_failed_tests() -> Result<(), String> {
     const MOST: f64 = 1.5;
     let rows = rows(Size::Full);
     let rows: Vec<&Row> = rows.iter().filter(|row| row.name.contains(FAILED_TEST)).collect();
     let mut costs = Vec::new();
     for (row, (times, done)) in rows.iter().zip(times(&rows)?) {
-        let cost = times[0][0] as f64 / row.items(&done).0 as f64;
-        println!("{}: {cost:.2} ns per step", row.name);
+        let items = row.items(&done).0 as f64;
+        let cost: Vec<f64> = times[0].iter().map(|time| *time as f64 / items).collect();
+        println!("{}: {:.2} ns per step, the median of the turns", row.name, median(&cost));
         costs.push(cost);
     }
-    let [long, short] = costs[..] else {
+    let [long, short] = &costs[..] else {
         return Err(format!("there are {} rows of a failed test, and not 2", costs.len()));
     };
-    if long > MOST * short || short > MOST * long {
-        return Err(format!("a failed test costs {long:.2} ns over 1,000 records and {short:.2} ns over one"));
+    let ratio = median(&long.iter().zip(short).map(|(long, short)| long / short).collect::<Vec<f64>>());
+    println!("over 1000 records / over 1 record: {ratio:.2}, the median of the turns");
+    if ratio > MOST || ratio * MOST < 1.0 {
+        return Err(format!("a failed test costs {ratio:.2} times as much over 1,000 records as over one"));
     }
     Ok(())
 }
