@@ -108,7 +108,7 @@ reads_length (e ∷ es) =
     let h = reads_length es in
     omega (arith, a, r, h)
 
-refusal_length : (number place : ℕ) → length (refused_text number place) ≤ text_size
+pub refusal_length : (number place : ℕ) → length (refused_text number place) ≤ text_size
 refusal_length number place = let n = numbers_length number place in omega (arith, n)
 
 run_length : (logged outcome steps : ℕ) (log : List ℕ) → length log ≤ log_size
@@ -129,41 +129,28 @@ shown_length : (r : Result RunSummary Refused) (log : List ℕ) → length log �
 shown_length (Ok r) log h = run_length r.logged (ending_number r.ending) r.steps log h
 shown_length (Err f) log h = refusal_length (refusal_number f.kind) f.place
 
--- the text is put completely: the index after it is its length
-pub whole : (text : List ℕ) (r : Summary) (log : List ℕ) → length text ≡ text_size → length log ≤ log_size
-    → (puts (printed r log) (line_at text 0)).at ≡ length (printed r log)
-whole text r log l h =
-    let n = printed_length r log h in
-    let w = puts_whole (printed r log) (line_at text 0) (omega (arith, n, l)) in
-    omega (arith, w)
+-- a text for which the buffer has room is put completely: the index after it is its length
+pub fits_counted : (xs text : List ℕ) → length xs ≤ text_size → length text ≡ text_size → (puts xs (line_at text 0)).at ≡ length xs
+fits_counted xs text h l = let w = puts_whole xs (line_at text 0) (omega (arith, h, l)) in omega (arith, w)
 
 -- so it is in the front of the buffer
+pub fits_front : (xs text after : List ℕ) (n : ℕ) → length xs ≤ text_size → length text ≡ text_size
+    → line_at after n ≡ puts xs (line_at text 0) → Put xs after n
+fits_front xs text after n h l e = all_put xs text after n (omega (arith, h, l)) e
+
+-- both of the text of any numbers
+pub whole : (text : List ℕ) (r : Summary) (log : List ℕ) → length text ≡ text_size → length log ≤ log_size
+    → (puts (printed r log) (line_at text 0)).at ≡ length (printed r log)
+whole text r log l h = fits_counted (printed r log) text (printed_length r log h) l
+
 pub whole_printed : (text after : List ℕ) (n : ℕ) (r : Summary) (log : List ℕ) → length text ≡ text_size → length log ≤ log_size
     → line_at after n ≡ puts (printed r log) (line_at text 0) → Put (printed r log) after n
-whole_printed text after n r log l h e =
-    let most = printed_length r log h in
-    all_put (printed r log) text after n (omega (arith, most, l)) e
+whole_printed text after n r log l h e = fits_front (printed r log) text after n (printed_length r log h) l e
 
--- the same of the text that is shown
+-- the second of the text that is shown
 pub whole_shown : (text after : List ℕ) (n : ℕ) (r : Result RunSummary Refused) (log : List ℕ) → length text ≡ text_size
     → length log ≤ log_size → line_at after n ≡ puts (shown r log) (line_at text 0) → Put (shown r log) after n
-whole_shown text after n r log l h e =
-    let most = shown_length r log h in
-    all_put (shown r log) text after n (omega (arith, most, l)) e
-
--- the line of a refusal
-pub refusal_counted : (text : List ℕ) (number place : ℕ) → length text ≡ text_size
-    → (puts (refused_text number place) (line_at text 0)).at ≡ length (refused_text number place)
-refusal_counted text number place l =
-    let n = refusal_length number place in
-    let w = puts_whole (refused_text number place) (line_at text 0) (omega (arith, n, l)) in
-    omega (arith, w)
-
-pub refusal_whole : (text after : List ℕ) (n number place : ℕ) → length text ≡ text_size
-    → line_at after n ≡ puts (refused_text number place) (line_at text 0) → Put (refused_text number place) after n
-refusal_whole text after n number place l e =
-    let most = refusal_length number place in
-    all_put (refused_text number place) text after n (omega (arith, most, l)) e
+whole_shown text after n r log l h e = fits_front (shown r log) text after n (shown_length r log h) l e
 
 -- ---- the text is what document 01 says of the numbers of a run and of its refusals; a text is refused with 30 or above
 no_refusal : (e : Ending) → is_refusal (ending_number e) ≡ false

@@ -147,8 +147,8 @@ fn put_refused(text: &mut [u8; TEXT_SIZE], refused: Refused) -> usize
     writer.len()
 }
 
-// Puts the whole text of the result of a run. The text of any refusal is the line of a refusal: for the number of a refusal of a text, 30 or above,
-// `put_summary` puts an ending, as document 01 has these numbers for texts alone.
+// Puts the whole text of the result of a run, with every refusal as `REFUSED`, its number and its place. `put_summary` would put a refusal of a text
+// (30 to 34, docs/TEXT.md) as an ending: no run is refused with these numbers, so `printed` has them for endings.
 pub fn put_whole(
     text: &mut [u8; TEXT_SIZE],
     summary: Result<RunSummary, Refused>,
